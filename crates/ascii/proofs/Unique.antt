@@ -1,0 +1,20 @@
+-- Each contract leaves one possible result, and one possible content of every lent buffer.
+-- Assumes nothing.
+use mathlib.Core.Path.{sym, ap, _∙_}
+use mathlib.Core.List.{List}
+use Prim.Native.Nat.{ℕ}
+use Rattle.modbus.proofs.Unique.{Unique, byte-paper, size-paper}
+use Rattle.ascii.proofs.parse_ascii_frame.Kinds as parse-ascii-frame-kinds
+use Rattle.ascii.proofs.parse_ascii_frame.Reads as parse-ascii-frame-reads
+use Rattle.ascii.proofs.generate_ascii_frame.Kinds as generate-ascii-frame-kinds
+use Rattle.ascii.proofs.generate_ascii_frame.Reads as generate-ascii-frame-reads
+
+pub parse-ascii-frame : Unique 2 parse-ascii-frame-kinds.ps parse-ascii-frame-kinds.r parse-ascii-frame-reads.Post
+parse-ascii-frame κs a x y u v p q =
+    let e = p ∙ sym q in
+    (byte-paper x y (ap (λ (t : (ℕ × ℕ) × List ℕ). t .0) e), ap (λ (t : (ℕ × ℕ) × List ℕ). (u .0, (u .1 .0, (t .1, u .1 .1 .1)))) e)
+
+pub generate-ascii-frame : Unique 2 generate-ascii-frame-kinds.ps generate-ascii-frame-kinds.r generate-ascii-frame-reads.Post
+generate-ascii-frame κs a x y u v p q =
+    let e = p ∙ sym q in
+    (size-paper x y (ap (λ (t : (ℕ × ℕ) × List ℕ). t .0) e), ap (λ (t : (ℕ × ℕ) × List ℕ). (u .0, (t .1, u .1 .1))) e)

@@ -1,0 +1,2 @@
+pub mod SignedTotal
+pub mod Unique

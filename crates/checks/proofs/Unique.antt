@@ -1,0 +1,24 @@
+-- Each contract leaves one possible result.
+-- Assumes nothing.
+use mathlib.Core.Path.{refl, sym, _∙_}
+use Rattle.modbus.proofs.Unique.{Unique, byte-paper}
+use Rattle.checks.proofs.calc_crc16.Kinds as calc-crc16-kinds
+use Rattle.checks.proofs.calc_crc16.Reads as calc-crc16-reads
+use Rattle.checks.proofs.calc_lrc.Kinds as calc-lrc-kinds
+use Rattle.checks.proofs.calc_lrc.Reads as calc-lrc-reads
+use Rattle.checks.proofs.chr_to_hex.Kinds as chr-to-hex-kinds
+use Rattle.checks.proofs.chr_to_hex.Reads as chr-to-hex-reads
+use Rattle.checks.proofs.hex_to_chr.Kinds as hex-to-chr-kinds
+use Rattle.checks.proofs.hex_to_chr.Reads as hex-to-chr-reads
+
+pub calc-crc16 : Unique 1 calc-crc16-kinds.ps calc-crc16-kinds.r calc-crc16-reads.Post
+calc-crc16 κs a x y u v p q = (p ∙ sym q, refl)
+
+pub calc-lrc : Unique 1 calc-lrc-kinds.ps calc-lrc-kinds.r calc-lrc-reads.Post
+calc-lrc κs a x y u v p q = (byte-paper x y (p ∙ sym q), refl)
+
+pub chr-to-hex : Unique 0 chr-to-hex-kinds.ps chr-to-hex-kinds.r chr-to-hex-reads.Post
+chr-to-hex κs a x y u v p q = (byte-paper x y (p ∙ sym q), refl)
+
+pub hex-to-chr : Unique 0 hex-to-chr-kinds.ps hex-to-chr-kinds.r hex-to-chr-reads.Post
+hex-to-chr κs a x y u v p q = (byte-paper x y (p ∙ sym q), refl)

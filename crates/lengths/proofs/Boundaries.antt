@@ -1,0 +1,62 @@
+-- Document 01, module 3, its numbers and both sides of each: frames by their first bytes, and what the guess says, by computation over
+-- the whole list.
+-- Assumes nothing.
+use mathlib.Core.Path.{_≡_, refl}
+use mathlib.Core.List.{List, [], _∷_, _++_}
+use mathlib.Core.Logic.{Dec·and, Dec·not}
+use Prim.Native.Nat.{ℕ}
+use native.Mathlib.Decide.{decLe, ℕ-discrete}
+use lib.ListN.{replicate}
+use Rattle.modbus.specs.Step.{_>>=_, _>>_, need, choose, _or?_}
+use Rattle.modbus.specs.Paper.{told}
+use Rattle.modbus.specs.Hex.{digit, undigit, text}
+use Rattle.modbus.specs.declared.ModbusProto.{ModbusProto}
+use Rattle.modbus.specs.declared.ModbusProto.the-variants.{Rtu, Ascii, TcpUdp}
+use Rattle.ascii.specs.Reading.{onward, orRefused, second, pair, placed, decode, parsed}
+use Rattle.lengths.specs.Guess.{requestBody, responseBody, inByte, serial, guess}
+
+-- what is said of a body's first bytes, as they stand on the line
+abbrev pub begun : ModbusProto → List ℕ → List ℕ
+begun Rtu b = b
+begun Ascii b = 58 ∷ text b
+begun TcpUdp b = b
+
+abbrev pub asked : ModbusProto → List ℕ → ℕ × ℕ
+asked p b = told (guess requestBody p (begun p b))
+
+abbrev pub replied : ModbusProto → List ℕ → ℕ × ℕ
+replied p b = told (guess responseBody p (begun p b))
+
+-- a request of 15 or 16 and a reply to a read with their byte count, and a TCP header with its length
+abbrev pub manyOf : ℕ → ℕ → List ℕ
+manyOf fn n = 1 ∷ fn ∷ 0 ∷ 0 ∷ 0 ∷ 8 ∷ n ∷ []
+
+abbrev pub replyOf : ℕ → ℕ → List ℕ
+replyOf fn n = 1 ∷ fn ∷ n ∷ []
+
+abbrev pub headOf : ℕ → List ℕ
+headOf n = 0 ∷ 7 ∷ 0 ∷ 0 ∷ 0 ∷ n ∷ []
+
+-- a row for each number, one side of it and the other: the largest byte counts and header length, which make a frame of 255 bytes, and
+-- one more; an unknown function, in a request on both serial lines, in a reply with two bytes known and with three, and from 128 on
+pub boundaries :
+    _≡_ {A = List ((ℕ × ℕ) × (ℕ × ℕ))}
+    ((asked Rtu (manyOf 15 246), asked Rtu (manyOf 15 247))
+    ∷ (asked Rtu (manyOf 16 246), asked Rtu (manyOf 16 247))
+    ∷ (asked Ascii (manyOf 15 118), asked Ascii (manyOf 15 119))
+    ∷ (asked Ascii (manyOf 16 118), asked Ascii (manyOf 16 119))
+    ∷ (replied Rtu (replyOf 1 250), replied Rtu (replyOf 1 251))
+    ∷ (replied Rtu (replyOf 4 250), replied Rtu (replyOf 4 251))
+    ∷ (replied Ascii (replyOf 1 122), replied Ascii (replyOf 1 123))
+    ∷ (replied Ascii (replyOf 4 122), replied Ascii (replyOf 4 123))
+    ∷ (asked TcpUdp (headOf 249), asked TcpUdp (headOf 250))
+    ∷ (replied TcpUdp (headOf 249), replied TcpUdp (headOf 250))
+    ∷ (asked Rtu (1 ∷ 43 ∷ []), asked Ascii (1 ∷ 43 ∷ []))
+    ∷ (replied Rtu (1 ∷ 127 ∷ []), replied Rtu (1 ∷ 127 ∷ 0 ∷ []))
+    ∷ (replied Rtu (1 ∷ 127 ∷ 0 ∷ []), replied Rtu (1 ∷ 128 ∷ []))
+    ∷ (replied Ascii (1 ∷ 127 ∷ 0 ∷ []), replied Ascii (1 ∷ 128 ∷ []))
+    ∷ [])
+    (replicate 10 ((0, 255), (23, 0))
+    ++ ((0, 8), (0, 17)) ∷ ((21, 0), (23, 0)) ∷ ((23, 0), (0, 5)) ∷ ((23, 0), (0, 11)) ∷ [])
+unfolding Dec·and Dec·not decLe ℕ-discrete _>>=_ _>>_ need choose _or?_ digit undigit text onward orRefused second pair placed decode parsed requestBody responseBody inByte serial guess
+boundaries = refl

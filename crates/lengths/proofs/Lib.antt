@@ -1,0 +1,4 @@
+pub mod GuessLaws
+pub mod FrameLength
+pub mod Boundaries
+pub mod Unique

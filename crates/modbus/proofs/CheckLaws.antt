@@ -1,0 +1,96 @@
+-- Laws of the two checks: one turn of each loop that computes them, that a CRC keeps to 16 bits, and that the LRC is the one byte that
+-- brings the sum to zero.
+-- Assumes nothing.
+use mathlib.Core.Path.{_≡_, refl, sym, ap, _∙_}
+use mathlib.Core.List.{List, [], _∷_, _++_}
+use Prim.Native.Nat.{ℕ, zero, suc, _+_, _-_, _*_, _/_, _%_, _^_, _<_, _≤_, min}
+use native.Mathlib.Omega.{arith}
+use native.Mathlib.Numerals.{add-one}
+use lib.Bits.{bitAnd, bitXor, and-mask, xor-lt}
+use lib.Dec.{lit<}
+use lib.ListN.{length, getD, take, drop, length-take, drop-of-length-le}
+use lib.Seq.{drop-cons, getD-take, take-suc}
+use Rattle.modbus.specs.Step.{choose, _≟_}
+use Rattle.modbus.specs.Bytes.{All, Bytes}
+use Rattle.modbus.specs.Check.{shift, shifts, crcByte, crcFrom, crc, sum, complement, lrc}
+use Rattle.modbus.proofs.StepLaws.{pick-yes, pick-no}
+
+-- ---- CRC
+
+-- the low bit as code tests it
+pub shift-none : (c : ℕ) → bitAnd c 1 ≡ 0 → c / 2 ≡ shift c
+unfolding shift
+shift-none c e = sym (pick-no _ _ _ (λ (h : c % 2 ≡ 1). omega (arith, and-mask c 1)))
+
+pub shift-one : (c : ℕ) → (bitAnd c 1 ≡ 0 → ⊥) → bitXor (c / 2) 0xA001 ≡ shift c
+unfolding shift
+shift-one c ne = sym (pick-yes _ _ _ (omega (arith, and-mask c 1, ne)))
+
+-- one of the eight shifts, of which i are done
+pub shifts-step : (i c d z : ℕ) → shifts (8 - i) c ≡ z → d ≡ shift c → i < 8 → shifts (8 - (i + 1)) d ≡ z
+unfolding shifts
+shifts-step i c d z inv e h = let k : 8 - i ≡ suc (8 - (i + 1)) = omega arith in rw e (rw k at inv)
+
+pub shifts-done : (i c z : ℕ) → shifts (8 - i) c ≡ z → 8 ≤ i → c ≡ z
+unfolding shifts
+shifts-done i c z inv h = let k : 8 - i ≡ 0 = omega arith in rw k at inv
+
+-- one byte of the first n: those from i on are the byte at i and those from i + 1 on
+pub crc-step : (s : List ℕ) (n i c d z : ℕ) → crcFrom c (drop i (take n s)) ≡ z → d ≡ crcByte c (getD s i 0)
+    → i < n → i < length s → crcFrom d (drop (i + 1) (take n s)) ≡ z
+unfolding crcFrom
+crc-step s n i c d z inv e hn hs =
+    let h : i < length (take n s) = simp length-take (omega arith) in
+    rw (e, add-one) (rw (drop-cons (take n s) i 0, getD-take) at inv)
+
+pub crc-done : (s : List ℕ) (n i c z : ℕ) → crcFrom c (drop i (take n s)) ≡ z → min n (length s) ≤ i → c ≡ z
+unfolding crcFrom
+crc-done s n i c z inv h =
+    let k : length (take n s) ≤ i = simp length-take h in
+    rw drop-of-length-le at inv
+
+shift-lt : (c : ℕ) → c < 2 ^ 16 → shift c < 2 ^ 16
+unfolding shift choose
+shift-lt c h =
+    elim (c % 2 ≟ 1) as (λ d. choose d (bitXor (c / 2) 0xA001) (c / 2) < 2 ^ 16)
+    [ yes p ↦ xor-lt 16 (c / 2) 0xA001 (omega arith) (lit< tt) | no p ↦ omega arith ]
+
+shifts-lt : (n c : ℕ) → c < 2 ^ 16 → shifts n c < 2 ^ 16
+unfolding shifts
+shifts-lt zero c h = h
+shifts-lt (suc n) c h = shifts-lt n (shift c) (shift-lt c h)
+
+crcFrom-lt : (l : List ℕ) (c : ℕ) → c < 2 ^ 16 → Bytes l → crcFrom c l < 2 ^ 16
+unfolding crcFrom crcByte
+crcFrom-lt [] c h y = h
+crcFrom-lt (b ∷ l) c h y = crcFrom-lt l _ (shifts-lt 8 _ (xor-lt 16 c b h (omega (arith, y .0)))) (y .1)
+
+pub crc-lt : (l : List ℕ) → Bytes l → crc l < 2 ^ 16
+unfolding crc
+crc-lt l y = crcFrom-lt l 0xFFFF (lit< tt) y
+
+-- ---- LRC
+
+pub sum-append : (l m : List ℕ) → sum (l ++ m) ≡ sum l + sum m
+unfolding sum
+sum-append [] m = omega arith
+sum-append (x ∷ l) m = omega (arith, sum-append l m)
+
+-- one byte more
+pub sum-step : (s : List ℕ) (i : ℕ) → i < length s → sum (take (i + 1) s) ≡ sum (take i s) + getD s i 0
+unfolding sum
+sum-step s i h =
+    rw (add-one, take-suc s i 0) (sum-append (take i s) (getD s i 0 ∷ []) ∙ omega arith)
+
+pub lrc-lt : (l : List ℕ) → lrc l < 256
+unfolding lrc
+lrc-lt l = omega arith
+
+-- the LRC brings the sum to zero, and no other byte does
+pub lrc-zero : (l : List ℕ) → sum (l ++ (lrc l ∷ [])) % 256 ≡ 0
+unfolding lrc sum
+lrc-zero l = omega (arith, sum-append l (lrc l ∷ []))
+
+pub lrc-only : (l : List ℕ) (b : ℕ) → b < 256 → sum (l ++ (b ∷ [])) % 256 ≡ 0 → b ≡ lrc l
+unfolding lrc sum
+lrc-only l b h e = omega (arith, sum-append l (b ∷ []))

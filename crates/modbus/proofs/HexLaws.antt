@@ -1,0 +1,74 @@
+-- Hexadecimal digits both ways, and text.
+-- Assumes nothing.
+use mathlib.Core.Path.{_≡_, refl, ap, _∙_}
+use mathlib.Core.List.{List, [], _∷_}
+use Prim.Native.Nat.{ℕ, _+_, _-_, _*_, _/_, _%_, _≤_, _<_}
+use native.Mathlib.Omega.{arith}
+use lib.ListN.{length}
+use Rattle.modbus.specs.Step.{Step, stop, go, choose, _≤?_, _and?_}
+use Rattle.modbus.specs.Hex.{digit, undigit, character, text}
+use Rattle.modbus.specs.declared.ErrorKind.{ErrorKind}
+use Rattle.modbus.specs.declared.ErrorKind.the-variants.{OOB, FrameBroken}
+use Rattle.modbus.proofs.StepLaws.{pass, fail, pick-yes, pick-no, picked}
+
+pub digit-low : (n : ℕ) → n ≤ 9 → digit n ≡ 48 + n
+unfolding digit
+digit-low n h = pick-yes _ _ _ h
+
+pub digit-high : (n : ℕ) → 10 ≤ n → digit n ≡ 55 + n
+unfolding digit
+digit-high n h = pick-no _ _ _ (λ (k : n ≤ 9). omega arith)
+
+-- ---- what a character stands for, by its range
+
+pub undigit-figure : (c : ℕ) → 48 ≤ c → c ≤ 57 → undigit c ≡ go (c - 48)
+unfolding undigit
+undigit-figure c h k = pick-yes _ _ _ (h, k)
+
+pub undigit-letter : (c : ℕ) → 65 ≤ c → c ≤ 70 → undigit c ≡ go (c - 55)
+unfolding undigit
+undigit-letter c h k =
+    pick-no _ _ _ (λ (p : (48 ≤ c) × (c ≤ 57)). omega arith) ∙ pick-yes _ _ _ (h, k)
+
+pub undigit-none : (c : ℕ) → ¬ ((48 ≤ c) × (c ≤ 57)) → ¬ ((65 ≤ c) × (c ≤ 70)) → undigit c ≡ stop FrameBroken
+unfolding undigit
+undigit-none c h k = pick-no _ _ _ h ∙ pick-no _ _ _ k
+
+-- a digit's character stands for the digit, and what a character stands for is a digit with that character
+pub undigit-digit : (n : ℕ) → n < 16 → undigit (digit n) ≡ go n
+undigit-digit n h = by (n ≤? 9)
+  where
+    by : Dec (n ≤ 9) → undigit (digit n) ≡ go n
+    by (yes p) = rw (digit-low n p) (undigit-figure (48 + n) (omega arith) (omega arith) ∙ ap go (omega arith))
+    by (no p) =
+        let k : 10 ≤ n = omega (arith, p) in
+        rw (digit-high n k) (undigit-letter (55 + n) (omega arith) (omega arith) ∙ ap go (omega arith))
+
+pub digit-undigit : (c n : ℕ) → undigit c ≡ go n → (n < 16) × (digit n ≡ c)
+unfolding undigit
+digit-undigit c n e =
+    picked _ _ _ e
+    (λ p q. let z : c - 48 ≡ n = cc in (omega (arith, p), digit-low n (omega (arith, p)) ∙ omega (arith, p)))
+    (λ _ f.
+    picked _ _ _ f
+    (λ p q. let z : c - 55 ≡ n = cc in (omega (arith, p), digit-high n (omega (arith, p)) ∙ omega (arith, p)))
+    (λ _ q. let z : _≡_ {A = ℕ} 0 1 = cc in absurd (omega arith)))
+
+-- ---- the character of any byte
+
+pub character-fits : (n : ℕ) → n ≤ 200 → character n ≡ go (digit n)
+unfolding character
+character-fits n h = pass _ _ _ (by (n ≤? 9))
+  where
+    by : Dec (n ≤ 9) → digit n ≤ 255
+    by (yes p) = omega (arith, digit-low n p)
+    by (no p) = omega (arith, p, digit-high n (omega (arith, p)))
+
+pub character-none : (n : ℕ) → 201 ≤ n → character n ≡ stop OOB
+unfolding character
+character-none n h = fail _ _ _ (λ (k : digit n ≤ 255). omega (arith, digit-high n (omega arith)))
+
+pub length-text : (l : List ℕ) → length (text l) ≡ 2 * length l
+unfolding text
+length-text [] = refl
+length-text (b ∷ l) = let i = length-text l in omega arith

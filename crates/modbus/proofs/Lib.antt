@@ -1,0 +1,9 @@
+pub mod StepLaws
+pub mod Unique
+pub mod PaperLaws
+pub mod BytesLaws
+pub mod CheckLaws
+pub mod HexLaws
+pub mod RequestLaws
+pub mod FrameLaws
+pub mod Cases

@@ -1,0 +1,78 @@
+-- What an answer in numbers tells: what is told in the same numbers is the same.
+-- Assumes nothing.
+use mathlib.Core.Path.{_≡_, refl, sym, ap, _∙_}
+use Prim.Native.Nat.{ℕ, zero, suc, _≤_}
+use native.Mathlib.Omega.{arith}
+use Rattle.modbus.specs.Step.{Step, stop, go, _≤?_}
+use Rattle.modbus.specs.Paper.{number, transport, protoOf, told, bytePaper, sizePaper, protoAsked}
+use Rattle.modbus.specs.declared.ErrorKind.{ErrorKind}
+use Rattle.modbus.specs.declared.ErrorKind.the-variants.{OOB, OOBContext, FrameBroken, FrameCRCError, IllegalDataValue, ReadCallOnWriteFrame, WriteCallOnReadFrame, BadSetup}
+use Rattle.modbus.specs.declared.ModbusProto.{ModbusProto}
+use Rattle.modbus.specs.declared.ModbusProto.the-variants.{Rtu, Ascii, TcpUdp}
+use Rattle.modbus.specs.declared.ByteAnswer.{ByteAnswer}
+use Rattle.modbus.specs.declared.ByteAnswer.the-variants as byte
+use Rattle.modbus.specs.declared.SizeAnswer.{SizeAnswer}
+use Rattle.modbus.specs.declared.SizeAnswer.the-variants.{Value, Refused}
+use Rattle.modbus.proofs.StepLaws.{pass, fail}
+use Rattle.modbus.proofs.Unique.{size-paper}
+
+abbrev answerOf : Step ErrorKind ℕ → SizeAnswer
+answerOf (go v) = Value v
+answerOf (stop k) = Refused k
+
+abbrev stepOf : SizeAnswer → Step ErrorKind ℕ
+stepOf (Value v) = go v
+stepOf (Refused k) = stop k
+
+told-answer : (m : Step ErrorKind ℕ) → sizePaper (answerOf m) ≡ told m
+told-answer (go v) = refl
+told-answer (stop k) = refl
+
+step-answer : (m : Step ErrorKind ℕ) → stepOf (answerOf m) ≡ m
+step-answer (go v) = refl
+step-answer (stop k) = refl
+
+pub told-same : (m n : Step ErrorKind ℕ) → told m ≡ told n → m ≡ n
+told-same m n e =
+    sym (step-answer m)
+    ∙ ap stepOf (size-paper (answerOf m) (answerOf n) (told-answer m ∙ e ∙ sym (told-answer n)))
+    ∙ step-answer n
+
+-- what a definition came to, from what the code answered
+pub byte-value : (r : ByteAnswer) (m : Step ErrorKind ℕ) (v : ℕ) → bytePaper r ≡ told m → r ≡ byte.Value v → m ≡ go v
+byte-value r m v e q = told-same m (go v) (sym e ∙ ap bytePaper q)
+
+pub byte-refusal : (r : ByteAnswer) (m : Step ErrorKind ℕ) (k : ErrorKind) → bytePaper r ≡ told m → r ≡ byte.Refused k → m ≡ stop k
+byte-refusal r m k e q = told-same m (stop k) (sym e ∙ ap bytePaper q)
+
+number-some : (k : ErrorKind) → number k ≡ 0 → ⊥
+number-some OOB e = omega arith
+number-some OOBContext e = omega arith
+number-some FrameBroken e = omega arith
+number-some FrameCRCError e = omega arith
+number-some IllegalDataValue e = omega arith
+number-some ReadCallOnWriteFrame e = omega arith
+number-some WriteCallOnReadFrame e = omega arith
+number-some BadSetup e = omega arith
+
+proto-back : (p : ModbusProto) → protoOf (transport p) ≡ p
+proto-back Rtu = refl
+proto-back Ascii = refl
+proto-back TcpUdp = refl
+
+-- a transport that was found is the number's, and one that was refused is above 2
+pub proto-found : (n : ℕ) (p : ModbusProto) → _≡_ {A = ℕ × ℕ} (0, transport p) (protoAsked n) → (n ≤ 2) × (p ≡ protoOf n)
+proto-found n p e = by (n ≤? 2)
+  where
+    by : Dec (n ≤ 2) → (n ≤ 2) × (p ≡ protoOf n)
+    by (yes h) =
+        let q : transport p ≡ n = ap (λ (a : ℕ × ℕ). a .1) (e ∙ ap told (pass _ _ _ h)) in
+        (h, sym (proto-back p) ∙ ap protoOf q)
+    by (no h) = absurd (omega (arith, ap (λ (a : ℕ × ℕ). a .0) (e ∙ ap told (fail _ _ _ h))))
+
+pub proto-refused : (n : ℕ) (k : ErrorKind) → _≡_ {A = ℕ × ℕ} (number k, 0) (protoAsked n) → (¬ (n ≤ 2)) × (number k ≡ number BadSetup)
+proto-refused n k e = by (n ≤? 2)
+  where
+    by : Dec (n ≤ 2) → (¬ (n ≤ 2)) × (number k ≡ number BadSetup)
+    by (yes h) = absurd (number-some k (ap (λ (a : ℕ × ℕ). a .0) (e ∙ ap told (pass _ _ _ h))))
+    by (no h) = (h, ap (λ (a : ℕ × ℕ). a .0) (e ∙ ap told (fail _ _ _ h)))

@@ -1,0 +1,53 @@
+-- When a run goes through a step and what it then comes to, and what a run that went through tells of its steps.
+-- The laws that take a run apart hand what they find to a function: bound by a λ it stays a name, where a `let` would be written out.
+-- Assumes nothing.
+use mathlib.Core.Path.{_≡_, refl}
+use Prim.Native.Nat.{ℕ}
+use native.Mathlib.Omega.{arith}
+use Rattle.modbus.specs.Step.{Step, stop, go, _>>=_, _>>_, need, choose}
+
+module _ {F B : Type 0} where
+  pub pass : {P : Type 0} (d : Dec P) (x : F) (k : Step F B) → P → (need d x >> k) ≡ k
+  unfolding _>>_ need
+  pass (yes p) x k h = refl
+  pass (no p) x k h = absurd (p h)
+
+  pub fail : {P : Type 0} (d : Dec P) (x : F) (k : Step F B) → ¬ P → (need d x >> k) ≡ stop x
+  unfolding _>>_ need
+  fail (yes p) x k h = absurd (h p)
+  fail (no p) x k h = refl
+
+  pub follow : {A : Type 0} (m : Step F A) (k : A → Step F B) {a : A} → m ≡ go a → (m >>= k) ≡ k a
+  unfolding _>>=_
+  follow m k {a} e = rw e
+
+  pub halt : {A : Type 0} (m : Step F A) (k : A → Step F B) {x : F} → m ≡ stop x → (m >>= k) ≡ stop x
+  unfolding _>>=_
+  halt m k {x} e = rw e
+
+module _ {F B C : Type 0} where
+  pub bound : {A : Type 0} (m : Step F A) (k : A → Step F B) {b : B} → (m >>= k) ≡ go b → ((a : A) → m ≡ go a → k a ≡ go b → C) → C
+  unfolding _>>=_
+  bound (go a) k e f = f a refl e
+  bound (stop x) k e f = let z : _≡_ {A = ℕ} 0 1 = cc in absurd (omega arith)
+
+  pub needed : {P : Type 0} (d : Dec P) (x : F) (k : Step F B) {b : B} → (need d x >> k) ≡ go b → (P → k ≡ go b → C) → C
+  unfolding _>>_ need
+  needed (yes p) x k e f = f p e
+  needed (no p) x k e f = let z : _≡_ {A = ℕ} 0 1 = cc in absurd (omega arith)
+
+pub pick-yes : {A P : Type 0} (d : Dec P) (a b : A) → P → choose d a b ≡ a
+unfolding choose
+pick-yes (yes p) a b h = refl
+pick-yes (no p) a b h = absurd (p h)
+
+pub pick-no : {A P : Type 0} (d : Dec P) (a b : A) → ¬ P → choose d a b ≡ b
+unfolding choose
+pick-no (yes p) a b h = absurd (h p)
+pick-no (no p) a b h = refl
+
+-- a choice that came to x
+pub picked : {A P C : Type 0} (d : Dec P) (a b : A) {x : A} → choose d a b ≡ x → (P → a ≡ x → C) → (¬ P → b ≡ x → C) → C
+unfolding choose
+picked (yes p) a b e f g = f p e
+picked (no p) a b e f g = g p e

@@ -1,0 +1,33 @@
+-- What each transport puts around a body, the bytes from the unit on: RTU appends the CRC, low byte first (SER 2.5.1); ASCII is a
+-- colon, the text of the body and its LRC, CR and LF (SER 2.5.2); TCP puts the transaction, the protocol 0 and the body's length
+-- before it (TCP 3.1.3).
+-- Assumes nothing.
+use mathlib.Core.List.{List, [], _∷_, _++_}
+use Prim.Native.Nat.{ℕ, _+_, _*_, _/_, _%_}
+use lib.ListN.{length}
+use Rattle.modbus.specs.Bytes.{two}
+use Rattle.modbus.specs.Check.{crc, lrc}
+use Rattle.modbus.specs.Hex.{text}
+use Rattle.modbus.specs.declared.ModbusProto.{ModbusProto}
+use Rattle.modbus.specs.declared.ModbusProto.the-variants.{Rtu, Ascii, TcpUdp}
+
+-- a serial line's text: a colon, the bytes in digits, CR and LF
+abbrev pub line : List ℕ → List ℕ
+line l = 58 ∷ text l ++ (13 ∷ 10 ∷ [])
+
+-- the tag is a TCP frame's transaction number; the serial lines have none
+abbrev pub wrap : ModbusProto → List ℕ → List ℕ → List ℕ
+wrap Rtu tag body = body ++ (crc body % 256 ∷ crc body / 256 ∷ [])
+wrap Ascii tag body = line (body ++ (lrc body ∷ []))
+wrap TcpUdp tag body = tag ++ (0 ∷ 0 ∷ two (length body)) ++ body
+
+abbrev pub tagLength : ModbusProto → ℕ
+tagLength Rtu = 0
+tagLength Ascii = 0
+tagLength TcpUdp = 2
+
+-- how long the frame around n bytes is
+abbrev pub around : ModbusProto → ℕ → ℕ
+around Rtu n = n + 2
+around Ascii n = 2 * n + 5
+around TcpUdp n = n + 6

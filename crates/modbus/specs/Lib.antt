@@ -1,0 +1,9 @@
+pub mod Step
+pub mod Bytes
+pub mod Paper
+pub mod Check
+pub mod Hex
+pub mod Table
+pub mod Request
+pub mod Frame
+pub mod Cases

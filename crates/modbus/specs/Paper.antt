@@ -1,0 +1,57 @@
+-- Document 01's numbers: the kind of each refusal, and every answer as a kind and a value, where kind 0 says that the
+-- value holds and a refusal's value is 0.
+-- Assumes nothing.
+use Prim.Native.Nat.{ℕ, zero, suc}
+use Rattle.modbus.specs.Step.{Step, stop, go, _>>_, need, _≤?_}
+use Rattle.modbus.specs.declared.ErrorKind.{ErrorKind}
+use Rattle.modbus.specs.declared.ErrorKind.the-variants.{OOB, OOBContext, FrameBroken, FrameCRCError, IllegalDataValue, ReadCallOnWriteFrame, WriteCallOnReadFrame, BadSetup}
+use Rattle.modbus.specs.declared.ModbusProto.{ModbusProto}
+use Rattle.modbus.specs.declared.ModbusProto.the-variants.{Rtu, Ascii, TcpUdp}
+use Rattle.modbus.specs.declared.ByteAnswer.{ByteAnswer}
+use Rattle.modbus.specs.declared.ByteAnswer.the-variants as byte
+use Rattle.modbus.specs.declared.SizeAnswer.{SizeAnswer}
+use Rattle.modbus.specs.declared.SizeAnswer.the-variants as size
+use Rattle.modbus.specs.declared.ProtoAnswer.{ProtoAnswer}
+use Rattle.modbus.specs.declared.ProtoAnswer.the-variants as proto
+
+abbrev pub number : ErrorKind → ℕ
+number BadSetup = 10
+number OOB = 21
+number OOBContext = 22
+number FrameBroken = 23
+number FrameCRCError = 24
+number IllegalDataValue = 25
+number ReadCallOnWriteFrame = 26
+number WriteCallOnReadFrame = 27
+
+abbrev pub transport : ModbusProto → ℕ
+transport Rtu = 0
+transport Ascii = 1
+transport TcpUdp = 2
+
+abbrev pub protoOf : ℕ → ModbusProto
+protoOf zero = Rtu
+protoOf (suc zero) = Ascii
+protoOf (suc (suc n)) = TcpUdp
+
+-- what a definition that may stop says, in numbers
+abbrev pub told : Step ErrorKind ℕ → ℕ × ℕ
+told (go v) = (0, v)
+told (stop k) = (number k, 0)
+
+-- what the code answers, in numbers
+abbrev pub bytePaper : ByteAnswer → ℕ × ℕ
+bytePaper (byte.Value v) = (0, v)
+bytePaper (byte.Refused k) = (number k, 0)
+
+abbrev pub sizePaper : SizeAnswer → ℕ × ℕ
+sizePaper (size.Value v) = (0, v)
+sizePaper (size.Refused k) = (number k, 0)
+
+abbrev pub protoPaper : ProtoAnswer → ℕ × ℕ
+protoPaper (proto.Value p) = (0, transport p)
+protoPaper (proto.Refused k) = (number k, 0)
+
+-- a setup's transport: 0 RTU, 1 ASCII, 2 TCP, and BadSetup above
+abbrev pub protoAsked : ℕ → ℕ × ℕ
+protoAsked n = told (need (n ≤? 2) BadSetup >> go n)

@@ -1,0 +1,75 @@
+-- What a master can ask (APP 6.1 to 6.6, 6.11 and 6.12), and the bytes of a request and of its answer from the function on.
+-- Assumes nothing.
+use mathlib.Core.Path.{_≡_}
+use mathlib.Core.List.{List, [], _∷_, _++_}
+use Prim.Native.Nat.{ℕ, _+_, _-_, _*_, _/_, _≤_}
+use lib.ListN.{length, replicate}
+use Rattle.modbus.specs.Bytes.{All, two, twos, pack}
+use Rattle.modbus.specs.Table.{Kind, bit, word, Tab, coils, discretes, holdings, inputs, kindOf}
+
+-- the functions served, and their numbers
+pub data Fn : Type 0 where
+  reads : Tab → Fn
+  one many : Kind → Fn
+
+abbrev pub code : Fn → ℕ
+code (reads coils) = 1
+code (reads discretes) = 2
+code (reads holdings) = 3
+code (reads inputs) = 4
+code (one bit) = 5
+code (one word) = 6
+code (many bit) = 15
+code (many word) = 16
+
+pub data Ask : Type 0 where
+  read : Tab → ℕ → ℕ → Ask  -- table, first cell, how many
+  write : Kind → ℕ → ℕ → Ask  -- coil or holding, its value
+  writes : Kind → ℕ → List ℕ → Ask  -- coils or holdings from a first cell on, their values
+
+-- ---- the published encoding
+
+-- one value in two bytes: a coil is FF00 or 0000
+abbrev pub wire : Kind → ℕ → ℕ
+wire bit v = 0xFF00 * v
+wire word v = v
+
+-- many values; bits are filled up with pad bits
+abbrev pub cargo : Kind → List ℕ → List ℕ → List ℕ
+cargo bit vs pad = pack (vs ++ pad)
+cargo word vs pad = twos vs
+
+-- how many bytes n values take
+abbrev pub octets : Kind → ℕ → ℕ
+octets bit n = (n + 7) / 8
+octets word n = 2 * n
+
+-- pad bits may be anything, and are as many as fill the last byte
+abbrev pub Fills : Kind → List ℕ → List ℕ → Type 0
+Fills bit vs pad = All (λ b. b ≤ 1) pad × (length vs + length pad ≡ 8 * octets bit (length vs))
+Fills word vs pad = pad ≡ []
+
+abbrev pub Pads : Ask → List ℕ → Type 0
+Pads (read t s n) pad = pad ≡ []
+Pads (write k a v) pad = pad ≡ []
+Pads (writes k s vs) pad = Fills k vs pad
+
+-- the request, with its pad bits
+abbrev pub pdu : Ask → List ℕ → List ℕ
+pdu (read t s n) pad = code (reads t) ∷ two s ++ two n
+pdu (write k a v) pad = code (one k) ∷ two a ++ two (wire k v)
+pdu (writes k s vs) pad = code (many k) ∷ two s ++ two (length vs) ++ (octets k (length vs) ∷ cargo k vs pad)
+
+-- values as a reply shows them, pad bits zero
+abbrev pub shown : Kind → List ℕ → List ℕ
+shown k vs = cargo k vs (replicate (8 * octets bit (length vs) - length vs) 0)
+
+-- the answer, where vs are the values of the cells read
+abbrev pub answer : Ask → List ℕ → List ℕ
+answer (read t s n) vs = code (reads t) ∷ octets (kindOf t) (length vs) ∷ shown (kindOf t) vs
+answer (write k a v) vs = code (one k) ∷ two a ++ two (wire k v)
+answer (writes k s ws) vs = code (many k) ∷ two s ++ two (length ws)
+
+-- the exception (APP 7): the function's number with its highest bit set, and a code
+abbrev pub exception : ℕ → ℕ → List ℕ
+exception fn c = (fn + 128) ∷ c ∷ []

@@ -1,0 +1,36 @@
+// Small total functions on bytes: a byte outside the slice reads as 0, and a byte put outside it changes nothing.
+ghost use mathlib.Core.Path.{_≡_};
+ghost use Rattle.modbus.specs.Bytes.{wordAt};
+ghost use Rattle.octets.specs.Put.{byteAt, putByte};
+
+fn byte(s: &[u8], at: usize) -> u8
+    ensures { λ r. ⌜ r ≡ byteAt (now (s .entry)) at ⌝ }
+{
+    if at < s.len() {
+        return s[at];
+    }
+    0
+}
+
+// The 16-bit number whose high byte stands at `at`.
+pub fn word(s: &[u8], at: usize) -> u16
+    ensures { λ r. ⌜ r ≡ wordAt (now (s .entry)) at ⌝ }
+{
+    if s.len() <= at {
+        return 0;
+    }
+    let high = byte(s, at) as u16;
+    let low = byte(s, at + 1) as u16;
+    high * 256 + low
+}
+
+// Puts one byte, and says whether there was room for it.
+pub fn put_byte(dst: &mut [u8], at: usize, b: u8) -> bool
+    ensures { λ r. ⌜ (r, now (dst .exit)) ≡ putByte (now (dst .entry)) at b ⌝ }
+{
+    if at < dst.len() {
+        dst[at] = b;
+        return true;
+    }
+    false
+}

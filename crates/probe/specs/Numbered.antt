@@ -1,0 +1,12 @@
+-- A guess for a transport by its number, as C gives it: above 2 it is BadSetup, before all else.
+-- Assumes nothing.
+use mathlib.Core.List.{List}
+use Prim.Native.Nat.{ℕ}
+use Rattle.modbus.specs.Step.{Step, _>>_, need, _≤?_}
+use Rattle.modbus.specs.Paper.{protoOf}
+use Rattle.modbus.specs.declared.ErrorKind.{ErrorKind}
+use Rattle.modbus.specs.declared.ErrorKind.the-variants.{BadSetup}
+use Rattle.lengths.specs.Guess.{guess}
+
+unfoldable pub guessed : (List ℕ → Step ErrorKind ℕ) → ℕ → List ℕ → Step ErrorKind ℕ
+guessed body n f = need (n ≤? 2) BadSetup >> guess body (protoOf n) f
