@@ -3,7 +3,7 @@
 
 test: beside prove
 
-# the ported calls beside the Rust they are ported from, on the same bytes (CALLS=5000000 for more)
+# the ported calls beside the Rust they are ported from, on the same bytes (CALLS="5000000 2000000" for more)
 beside:
 	@bin/beside $(CALLS)
 

@@ -16,9 +16,10 @@ use Rattle.modbus.specs.Frame.{wrap, tagLength, around}
 use Rattle.modbus.specs.declared.ErrorKind.{ErrorKind}
 use Rattle.modbus.specs.declared.ModbusProto.{ModbusProto}
 use Rattle.modbus.specs.declared.ModbusProto.the-variants.{Rtu, Ascii, TcpUdp}
-use Rattle.modbus.proofs.BytesLaws.{All-append}
+use Rattle.modbus.proofs.BytesLaws.{bytes-append}
 use Rattle.modbus.proofs.CheckLaws.{lrc-lt}
-use Rattle.modbus.proofs.RequestLaws.{length-cargo, length-shown}
+use Rattle.modbus.proofs.CargoLaws.{length-cargo}
+use Rattle.modbus.proofs.AnswerLaws.{length-shown}
 use Rattle.modbus.proofs.FrameLaws.{length-wrap}
 use Rattle.ascii.proofs.RoundTrip.{round-trip}
 use Rattle.lengths.specs.Guess.{Many, Reads, requestBody, responseBody, inByte, serial, guess}
@@ -81,7 +82,7 @@ ascii-whole : (body : List ℕ → Step ErrorKind ℕ) (b : List ℕ) → Bytes 
     → guess body Ascii (wrap Ascii [] b) ≡ serial body Ascii (b ++ (lrc b ∷ []))
 unfolding guess _>>=_
 ascii-whole body b y h =
-    let z : Bytes (b ++ (lrc b ∷ [])) = All-append _ b (lrc b ∷ []) y (lrc-lt b, tt) in
+    let z : Bytes (b ++ (lrc b ∷ [])) = bytes-append b (lrc b ∷ []) y (lrc-lt b, tt) in
     let n = length-append b (lrc b ∷ []) in
     rw (round-trip (b ++ (lrc b ∷ [])) z 256 0 (omega arith) (omega arith))
 

@@ -2,8 +2,15 @@ pub mod StepLaws
 pub mod Unique
 pub mod PaperLaws
 pub mod BytesLaws
+pub mod Views
 pub mod CheckLaws
 pub mod HexLaws
+pub mod BitLaws
+pub mod StorageLaws
+pub mod RegisterLaws
+pub mod CargoLaws
 pub mod RequestLaws
+pub mod AnswerLaws
 pub mod FrameLaws
+pub mod DriveLaws
 pub mod Cases

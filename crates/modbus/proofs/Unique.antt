@@ -2,14 +2,14 @@
 -- document 01's numbers to the answers, by which it is proved of a contract in those numbers.
 -- Assumes nothing.
 use mathlib.Core.Path.{_≡_, refl, sym, ap, _∙_}
-use mathlib.Core.Bool.{cond}
+use mathlib.Core.Bool.{true, false, cond}
 use mathlib.Core.List.{List}
 use Prim.Native.Nat.{ℕ}
 use lib.Dec.{eqb}
 use contract.Lifetimes.{Lfts}
 use borrow.Fn.Kinds.{PK, RK, Out, Dens, resT, endedOf}
 use denote.Triple.Clauses.{Lasts, atExit}
-use Rattle.modbus.specs.Paper.{number, bytePaper, sizePaper, protoPaper}
+use Rattle.modbus.specs.Paper.{number, bytePaper, sizePaper, wordPaper, bitPaper, donePaper, protoPaper}
 use Rattle.modbus.specs.declared.ErrorKind.{ErrorKind}
 use Rattle.modbus.specs.declared.ErrorKind.the-variants.{OOB, OOBContext, FrameBroken, FrameCRCError, IllegalDataValue, ReadCallOnWriteFrame, WriteCallOnReadFrame, BadSetup}
 use Rattle.modbus.specs.declared.ModbusProto.{ModbusProto}
@@ -19,6 +19,12 @@ use Rattle.modbus.specs.declared.ByteAnswer.{ByteAnswer}
 use Rattle.modbus.specs.declared.ByteAnswer.the-variants as byte
 use Rattle.modbus.specs.declared.SizeAnswer.{SizeAnswer}
 use Rattle.modbus.specs.declared.SizeAnswer.the-variants as size
+use Rattle.modbus.specs.declared.WordAnswer.{WordAnswer}
+use Rattle.modbus.specs.declared.WordAnswer.the-variants as word
+use Rattle.modbus.specs.declared.BitAnswer.{BitAnswer}
+use Rattle.modbus.specs.declared.BitAnswer.the-variants as bit
+use Rattle.modbus.specs.declared.DoneAnswer.{DoneAnswer}
+use Rattle.modbus.specs.declared.DoneAnswer.the-variants as done
 use Rattle.modbus.specs.declared.ProtoAnswer.{ProtoAnswer}
 use Rattle.modbus.specs.declared.ProtoAnswer.the-variants as proto
 use Rattle.modbus.proofs.kind_number.Kinds as kind-number-kinds
@@ -27,6 +33,12 @@ use Rattle.modbus.proofs.byte_answer.Kinds as byte-answer-kinds
 use Rattle.modbus.proofs.byte_answer.Reads as byte-answer-reads
 use Rattle.modbus.proofs.size_answer.Kinds as size-answer-kinds
 use Rattle.modbus.proofs.size_answer.Reads as size-answer-reads
+use Rattle.modbus.proofs.word_answer.Kinds as word-answer-kinds
+use Rattle.modbus.proofs.word_answer.Reads as word-answer-reads
+use Rattle.modbus.proofs.bit_answer.Kinds as bit-answer-kinds
+use Rattle.modbus.proofs.bit_answer.Reads as bit-answer-reads
+use Rattle.modbus.proofs.done_answer.Kinds as done-answer-kinds
+use Rattle.modbus.proofs.done_answer.Reads as done-answer-reads
 use Rattle.modbus.proofs.proto_of.Kinds as proto-of-kinds
 use Rattle.modbus.proofs.proto_of.Reads as proto-of-reads
 
@@ -88,6 +100,19 @@ proto-back (proto.Value Ascii) = refl
 proto-back (proto.Value TcpUdp) = refl
 proto-back (proto.Refused k) = refused-back (λ n. proto.Value (protoBack n)) proto.Refused k
 
+word-back : (x : WordAnswer) → back word.Value word.Refused (wordPaper x) ≡ x
+word-back (word.Value v) = refl
+word-back (word.Refused k) = refused-back word.Value word.Refused k
+
+bit-back : (x : BitAnswer) → back (λ n. bit.Value (eqb n 1)) bit.Refused (bitPaper x) ≡ x
+bit-back (bit.Value true) = refl
+bit-back (bit.Value false) = refl
+bit-back (bit.Refused k) = refused-back (λ n. bit.Value (eqb n 1)) bit.Refused k
+
+done-back : (x : DoneAnswer) → back (λ n. done.Done) done.Refused (donePaper x) ≡ x
+done-back done.Done = refl
+done-back (done.Refused k) = refused-back (λ n. done.Done) done.Refused k
+
 -- what has a way back is told apart by its numbers
 by-back : {A : Type 0} (paper : A → ℕ × ℕ) (way : ℕ × ℕ → A) → ((x : A) → way (paper x) ≡ x) → (x y : A) → paper x ≡ paper y → x ≡ y
 by-back paper way e x y p = sym (e x) ∙ ap way p ∙ e y
@@ -97,6 +122,15 @@ byte-paper = by-back bytePaper (back byte.Value byte.Refused) byte-back
 
 pub size-paper : (x y : SizeAnswer) → sizePaper x ≡ sizePaper y → x ≡ y
 size-paper = by-back sizePaper (back size.Value size.Refused) size-back
+
+pub word-paper : (x y : WordAnswer) → wordPaper x ≡ wordPaper y → x ≡ y
+word-paper = by-back wordPaper (back word.Value word.Refused) word-back
+
+pub bit-paper : (x y : BitAnswer) → bitPaper x ≡ bitPaper y → x ≡ y
+bit-paper = by-back bitPaper (back (λ n. bit.Value (eqb n 1)) bit.Refused) bit-back
+
+pub done-paper : (x y : DoneAnswer) → donePaper x ≡ donePaper y → x ≡ y
+done-paper = by-back donePaper (back (λ n. done.Done) done.Refused) done-back
 
 proto-paper : (x y : ProtoAnswer) → protoPaper x ≡ protoPaper y → x ≡ y
 proto-paper = by-back protoPaper (back (λ n. proto.Value (protoBack n)) proto.Refused) proto-back
@@ -117,3 +151,12 @@ byte-answer κs a x y u v p q = (answer-paper x y (p ∙ sym q), refl)
 
 pub size-answer : Unique 0 size-answer-kinds.ps size-answer-kinds.r size-answer-reads.Post
 size-answer κs a x y u v p q = (answer-paper x y (p ∙ sym q), refl)
+
+pub word-answer : Unique 0 word-answer-kinds.ps word-answer-kinds.r word-answer-reads.Post
+word-answer κs a x y u v p q = (answer-paper x y (p ∙ sym q), refl)
+
+pub bit-answer : Unique 0 bit-answer-kinds.ps bit-answer-kinds.r bit-answer-reads.Post
+bit-answer κs a x y u v p q = (answer-paper x y (p ∙ sym q), refl)
+
+pub done-answer : Unique 0 done-answer-kinds.ps done-answer-kinds.r done-answer-reads.Post
+done-answer κs a x y u v p q = (answer-paper x y (p ∙ sym q), refl)

@@ -2,10 +2,11 @@
 -- colon, the text of the body and its LRC, CR and LF (SER 2.5.2); TCP puts the transaction, the protocol 0 and the body's length
 -- before it (TCP 3.1.3).
 -- Assumes nothing.
+use mathlib.Core.Path.{_≡_}
 use mathlib.Core.List.{List, [], _∷_, _++_}
-use Prim.Native.Nat.{ℕ, _+_, _*_, _/_, _%_}
+use Prim.Native.Nat.{ℕ, _+_, _*_, _/_, _%_, _≤_}
 use lib.ListN.{length}
-use Rattle.modbus.specs.Bytes.{two}
+use Rattle.modbus.specs.Bytes.{Bytes, two}
 use Rattle.modbus.specs.Check.{crc, lrc}
 use Rattle.modbus.specs.Hex.{text}
 use Rattle.modbus.specs.declared.ModbusProto.{ModbusProto}
@@ -31,3 +32,23 @@ abbrev pub around : ModbusProto → ℕ → ℕ
 around Rtu n = n + 2
 around Ascii n = 2 * n + 5
 around TcpUdp n = n + 6
+
+-- the frame bounds (document 01, "Shapes and checks of the driver"), as lengths of the body: RTU frames have 4 to 256 bytes, ASCII frames
+-- 6 to 508 digits, TCP frames 12 to 256 bytes
+abbrev pub least : ModbusProto → ℕ
+least Rtu = 2
+least Ascii = 2
+least TcpUdp = 6
+
+abbrev pub most : ModbusProto → ℕ
+most Rtu = 254
+most Ascii = 253
+most TcpUdp = 250
+
+-- a frame is the whole of what the transport puts around a body of bytes within the bounds
+pub record Framed (proto : ModbusProto) (tag body frame : List ℕ) : Type 0 where
+  pub bytes : Bytes body
+  pub low : least proto ≤ length body
+  pub high : length body ≤ most proto
+  pub tagged : length tag ≡ tagLength proto
+  pub whole : frame ≡ wrap proto tag body

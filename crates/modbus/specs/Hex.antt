@@ -2,8 +2,8 @@
 -- module 1).
 -- Assumes nothing.
 use mathlib.Core.List.{List, [], _∷_}
-use Prim.Native.Nat.{ℕ, _+_, _-_, _/_, _%_}
-use Rattle.modbus.specs.Step.{Step, stop, go, _>>_, need, choose, _≤?_, _and?_}
+use Prim.Native.Nat.{ℕ, _+_, _-_, _*_, _/_, _%_}
+use Rattle.modbus.specs.Step.{Step, stop, go, _>>=_, _>>_, need, choose, _≤?_, _and?_}
 use Rattle.modbus.specs.declared.ErrorKind.{ErrorKind}
 use Rattle.modbus.specs.declared.ErrorKind.the-variants.{OOB, FrameBroken}
 
@@ -25,3 +25,13 @@ character n = need (digit n ≤? 255) OOB >> go (digit n)
 unfoldable pub text : List ℕ → List ℕ
 text [] = []
 text (b ∷ l) = digit (b / 16) ∷ digit (b % 16) ∷ text l
+
+-- text as bytes; a digit without a second one is FrameBroken
+unfoldable pub untext : List ℕ → Step ErrorKind (List ℕ)
+untext [] = go []
+untext (h ∷ []) = stop FrameBroken
+untext (h ∷ l ∷ r) = do
+  a ← undigit h
+  b ← undigit l
+  bs ← untext r
+  go ((a * 16 + b) ∷ bs)

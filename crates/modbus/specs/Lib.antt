@@ -5,5 +5,10 @@ pub mod Check
 pub mod Hex
 pub mod Table
 pub mod Request
+pub mod Storage
 pub mod Frame
+pub mod Setup
+pub mod Unit
+pub mod Decode
+pub mod Drive
 pub mod Cases

@@ -1,6 +1,8 @@
 -- Document 01's numbers: the kind of each refusal, and every answer as a kind and a value, where kind 0 says that the
 -- value holds and a refusal's value is 0.
 -- Assumes nothing.
+use mathlib.Core.Bool.{Bool, true, false}
+use mathlib.Core.List.{List}
 use Prim.Native.Nat.{ℕ, zero, suc}
 use Rattle.modbus.specs.Step.{Step, stop, go, _>>_, need, _≤?_}
 use Rattle.modbus.specs.declared.ErrorKind.{ErrorKind}
@@ -11,6 +13,12 @@ use Rattle.modbus.specs.declared.ByteAnswer.{ByteAnswer}
 use Rattle.modbus.specs.declared.ByteAnswer.the-variants as byte
 use Rattle.modbus.specs.declared.SizeAnswer.{SizeAnswer}
 use Rattle.modbus.specs.declared.SizeAnswer.the-variants as size
+use Rattle.modbus.specs.declared.WordAnswer.{WordAnswer}
+use Rattle.modbus.specs.declared.WordAnswer.the-variants as word
+use Rattle.modbus.specs.declared.BitAnswer.{BitAnswer}
+use Rattle.modbus.specs.declared.BitAnswer.the-variants as bit
+use Rattle.modbus.specs.declared.DoneAnswer.{DoneAnswer}
+use Rattle.modbus.specs.declared.DoneAnswer.the-variants as done
 use Rattle.modbus.specs.declared.ProtoAnswer.{ProtoAnswer}
 use Rattle.modbus.specs.declared.ProtoAnswer.the-variants as proto
 
@@ -48,6 +56,24 @@ abbrev pub sizePaper : SizeAnswer → ℕ × ℕ
 sizePaper (size.Value v) = (0, v)
 sizePaper (size.Refused k) = (number k, 0)
 
+abbrev pub wordPaper : WordAnswer → ℕ × ℕ
+wordPaper (word.Value v) = (0, v)
+wordPaper (word.Refused k) = (number k, 0)
+
+-- a bit is 0 or 1
+abbrev pub digitOf : Bool → ℕ
+digitOf true = 1
+digitOf false = 0
+
+abbrev pub bitPaper : BitAnswer → ℕ × ℕ
+bitPaper (bit.Value v) = (0, digitOf v)
+bitPaper (bit.Refused k) = (number k, 0)
+
+-- a call that only changes what it was lent has no value
+abbrev pub donePaper : DoneAnswer → ℕ × ℕ
+donePaper done.Done = (0, 0)
+donePaper (done.Refused k) = (number k, 0)
+
 abbrev pub protoPaper : ProtoAnswer → ℕ × ℕ
 protoPaper (proto.Value p) = (0, transport p)
 protoPaper (proto.Refused k) = (number k, 0)
@@ -55,3 +81,8 @@ protoPaper (proto.Refused k) = (number k, 0)
 -- a setup's transport: 0 RTU, 1 ASCII, 2 TCP, and BadSetup above
 abbrev pub protoAsked : ℕ → ℕ × ℕ
 protoAsked n = told (need (n ≤? 2) BadSetup >> go n)
+
+-- an answer, and what a lent buffer then holds: a refusal leaves it as given
+abbrev pub toldWith : List ℕ → Step ErrorKind (ℕ × List ℕ) → (ℕ × ℕ) × List ℕ
+toldWith l (go (v, m)) = ((0, v), m)
+toldWith l (stop k) = ((number k, 0), l)

@@ -1,11 +1,12 @@
--- What a master can ask (APP 6.1 to 6.6, 6.11 and 6.12), and the bytes of a request and of its answer from the function on.
+-- What a master can ask (APP 6.1 to 6.6, 6.11 and 6.12): what of it is permitted, its published encoding, the cells it reads and writes, its
+-- effect and its answer.
 -- Assumes nothing.
 use mathlib.Core.Path.{_≡_}
 use mathlib.Core.List.{List, [], _∷_, _++_}
 use Prim.Native.Nat.{ℕ, _+_, _-_, _*_, _/_, _≤_}
 use lib.ListN.{length, replicate}
 use Rattle.modbus.specs.Bytes.{All, two, twos, pack}
-use Rattle.modbus.specs.Table.{Kind, bit, word, Tab, coils, discretes, holdings, inputs, kindOf}
+use Rattle.modbus.specs.Table.{Kind, bit, word, Tab, coils, discretes, holdings, inputs, kindOf, target, Fits, Tables, part, Range, assign}
 
 -- the functions served, and their numbers
 pub data Fn : Type 0 where
@@ -22,10 +23,45 @@ code (one word) = 6
 code (many bit) = 15
 code (many word) = 16
 
+abbrev pub functions : List Fn
+functions = reads coils ∷ reads discretes ∷ reads holdings ∷ reads inputs ∷ one bit ∷ one word ∷ many bit ∷ many word ∷ []
+
 pub data Ask : Type 0 where
   read : Tab → ℕ → ℕ → Ask  -- table, first cell, how many
   write : Kind → ℕ → ℕ → Ask  -- coil or holding, its value
   writes : Kind → ℕ → List ℕ → Ask  -- coils or holdings from a first cell on, their values
+
+abbrev pub fnOf : Ask → Fn
+fnOf (read t s n) = reads t
+fnOf (write k a v) = one k
+fnOf (writes k s vs) = many k
+
+-- ---- what is permitted (document 01, "Value rules")
+
+abbrev pub mostRead : Kind → ℕ
+mostRead bit = 2000
+mostRead word = 125
+
+abbrev pub mostWritten : Kind → ℕ
+mostWritten bit = 1968
+mostWritten word = 123
+
+abbrev pub Permitted : Ask → Type 0
+Permitted (read t s n) = (1 ≤ n) × (n ≤ mostRead (kindOf t))
+Permitted (write k a v) = Fits k v
+Permitted (writes k s vs) = (1 ≤ length vs) × (length vs ≤ mostWritten k) × All (Fits k) vs
+
+-- ---- the cells it reads, the cells it writes
+
+abbrev pub reading : Ask → List Range
+reading (read t s n) = record { tab = t; first = s; count = n } ∷ []
+reading (write k a v) = []
+reading (writes k s vs) = []
+
+abbrev pub writing : Ask → List Range
+writing (read t s n) = []
+writing (write k a v) = record { tab = target k; first = a; count = 1 } ∷ []
+writing (writes k s vs) = record { tab = target k; first = s; count = length vs } ∷ []
 
 -- ---- the published encoding
 
@@ -59,6 +95,30 @@ abbrev pub pdu : Ask → List ℕ → List ℕ
 pdu (read t s n) pad = code (reads t) ∷ two s ++ two n
 pdu (write k a v) pad = code (one k) ∷ two a ++ two (wire k v)
 pdu (writes k s vs) pad = code (many k) ∷ two s ++ two (length vs) ++ (octets k (length vs) ∷ cargo k vs pad)
+
+abbrev pub Encodes : Ask → List ℕ → Type 0
+Encodes a l = (pad : List ℕ) × Pads a pad × (l ≡ pdu a pad)
+
+-- ---- effect and answer
+
+-- the values it writes
+abbrev pub given : Ask → List ℕ
+given (read t s n) = []
+given (write k a v) = v ∷ []
+given (writes k s vs) = vs
+
+abbrev pub assigned : List Range → List ℕ → Tables → Tables
+assigned [] vs T = T
+assigned (r ∷ l) vs T = assign r vs T
+
+abbrev pub apply : Ask → Tables → Tables
+apply a T = assigned (writing a) (given a) T
+
+-- the values of the cells it reads
+abbrev pub found : Ask → Tables → List ℕ
+found (read t s n) T = part (T t) s n
+found (write k a v) T = []
+found (writes k s vs) T = []
 
 -- values as a reply shows them, pad bits zero
 abbrev pub shown : Kind → List ℕ → List ℕ

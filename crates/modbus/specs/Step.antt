@@ -2,7 +2,8 @@
 -- it may stop at, which carry the proposition that they decide.
 -- Assumes nothing.
 use mathlib.Core.Logic.{_⊎_, inl, inr, Dec·and, Dec·not}
-use mathlib.Core.Path.{_≡_}
+use mathlib.Core.Path.{_≡_, refl, ap₂}
+use mathlib.Core.List.{List, [], _∷_, nil≢cons, cons≢nil, head-eq-of-cons-eq, tail-eq-of-cons-eq}
 use Prim.Native.Nat.{ℕ, _≤_}
 use native.Mathlib.Decide.{decLe, ℕ-discrete}
 
@@ -49,3 +50,15 @@ _or?_ (no p) (no q) = no (λ h. elim h [ inl x ↦ p x | inr y ↦ q y ])
 
 abbrev pub not? : {P : Type 0} → Dec P → Dec (¬ P)
 not? p = Dec·not p
+
+unfoldable pub cons? : {x y : ℕ} {l m : List ℕ} → Dec (x ≡ y) → Dec (l ≡ m) → Dec (x ∷ l ≡ y ∷ m)
+cons? (yes p) (yes q) = yes (ap₂ _∷_ p q)
+cons? (yes p) (no q) = no (λ e. q (tail-eq-of-cons-eq e))
+cons? (no p) q = no (λ e. p (head-eq-of-cons-eq e))
+
+unfoldable pub same? : (l m : List ℕ) → Dec (l ≡ m)
+unfolding cons?
+same? [] [] = yes refl
+same? [] (y ∷ m) = no (λ e. nil≢cons e)
+same? (x ∷ l) [] = no (λ e. cons≢nil e)
+same? (x ∷ l) (y ∷ m) = cons? (x ≟ y) (same? l m)

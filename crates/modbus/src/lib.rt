@@ -2,7 +2,8 @@
 // Their numbers in document 01 are in specs/Paper.
 ghost use mathlib.Core.Path.{_≡_};
 ghost use Rattle.modbus.specs.Step.{stop};
-ghost use Rattle.modbus.specs.Paper.{number, told, protoPaper, protoAsked, bytePaper, sizePaper};
+ghost use Rattle.modbus.specs.declared.BitAnswer.the-variants as bit;
+ghost use Rattle.modbus.specs.Paper.{number, told, protoPaper, protoAsked, bytePaper, sizePaper, wordPaper, bitPaper, donePaper};
 
 // Why a ported call is refused: the crate's kinds, and document 01's BadSetup for a transport that does not exist.
 pub enum ErrorKind {
@@ -31,6 +32,22 @@ pub enum ByteAnswer {
 // The same for a length in memory.
 pub enum SizeAnswer {
     Value(usize),
+    Refused(ErrorKind),
+}
+
+// The crate's Result<u16, ErrorKind>, Result<bool, ErrorKind> and Result<(), ErrorKind>.
+pub enum WordAnswer {
+    Value(u16),
+    Refused(ErrorKind),
+}
+
+pub enum BitAnswer {
+    Value(bool),
+    Refused(ErrorKind),
+}
+
+pub enum DoneAnswer {
+    Done,
     Refused(ErrorKind),
 }
 
@@ -100,5 +117,44 @@ pub fn size_answer(answer: SizeAnswer) -> Answer
     match answer {
         SizeAnswer::Value(v) => Answer { value: v, kind: 0 },
         SizeAnswer::Refused(k) => refused(k),
+    }
+}
+
+pub fn word_answer(answer: WordAnswer) -> Answer
+    ensures { λ r. ⌜ (r .kind, r .value) ≡ wordPaper answer ⌝ }
+{
+    match answer {
+        WordAnswer::Value(v) => Answer {
+            value: v as usize,
+            kind: 0,
+        },
+        WordAnswer::Refused(k) => refused(k),
+    }
+}
+
+pub fn bit_answer(answer: BitAnswer) -> Answer
+    ensures { λ r. ⌜ (r .kind, r .value) ≡ bitPaper answer ⌝ }
+{
+    match answer {
+        BitAnswer::Value(v) => bit_value(v),
+        BitAnswer::Refused(k) => refused(k),
+    }
+}
+
+fn bit_value(v: bool) -> Answer
+    ensures { λ r. ⌜ (r .kind, r .value) ≡ bitPaper (bit.Value v) ⌝ }
+{
+    if v {
+        return Answer { value: 1, kind: 0 };
+    }
+    Answer { value: 0, kind: 0 }
+}
+
+pub fn done_answer(answer: DoneAnswer) -> Answer
+    ensures { λ r. ⌜ (r .kind, r .value) ≡ donePaper answer ⌝ }
+{
+    match answer {
+        DoneAnswer::Done => Answer { value: 0, kind: 0 },
+        DoneAnswer::Refused(k) => refused(k),
     }
 }

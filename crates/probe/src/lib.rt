@@ -1,4 +1,6 @@
 // The ported calls under names of their own for C, so that the runs beside the Rust reach those that the library keeps to itself.
+pub mod module4;
+
 use modbus::Answer;
 use modbus::ByteAnswer;
 use modbus::ProtoAnswer;

@@ -7,7 +7,8 @@ use std::panic::{catch_unwind, AssertUnwindSafe};
 use std::sync::atomic::{AtomicBool, Ordering::Relaxed};
 
 const BAD_SETUP: u8 = 10;
-const OOB: u8 = 21;
+pub const OOB: u8 = 21;
+pub const OOB_CONTEXT: u8 = 22;
 const FRAME_BROKEN: u8 = 23;
 
 static IN_THE_CRATE: AtomicBool = AtomicBool::new(false);
@@ -22,6 +23,14 @@ pub fn hush_the_crate() {
     }));
 }
 
+/// What the crate answers, or None where it panics.
+pub fn in_the_crate<T>(ask: impl FnOnce() -> T) -> Option<T> {
+    IN_THE_CRATE.store(true, Relaxed);
+    let got = catch_unwind(AssertUnwindSafe(ask));
+    IN_THE_CRATE.store(false, Relaxed);
+    got.ok()
+}
+
 /// The answer, or why the crate and document 01 do not agree on where it panics.
 pub fn answer(call: &Call) -> Result<Answer, String> {
     let mut buffer = call.lent();
@@ -29,15 +38,13 @@ pub fn answer(call: &Call) -> Result<Answer, String> {
         // the crate has no such proto; document 01 refuses it before all else
         return Ok(Answer { kind: BAD_SETUP, value: 0, buffer });
     }
-    IN_THE_CRATE.store(true, Relaxed);
-    let got = catch_unwind(AssertUnwindSafe(|| ask(call, &mut buffer)));
-    IN_THE_CRATE.store(false, Relaxed);
+    let got = in_the_crate(|| ask(call, &mut buffer));
     let (kind, value) = match (got, panics(call)) {
-        (Err(_), Some(kind)) => (kind, 0),
-        (Err(_), None) => return Err("the crate panics where document 01 foresees none".into()),
-        (Ok(_), Some(_)) => return Err("document 01 foresees a panic and the crate answers".into()),
-        (Ok(Ok(value)), None) => (0, u16::try_from(value).map_err(|_| "a value above 65535")?),
-        (Ok(Err(kind)), None) => (number(kind)?, 0),
+        (None, Some(kind)) => (kind, 0),
+        (None, None) => return Err("the crate panics where document 01 foresees none".into()),
+        (Some(_), Some(_)) => return Err("document 01 foresees a panic and the crate answers".into()),
+        (Some(Ok(value)), None) => (0, u16::try_from(value).map_err(|_| "a value above 65535")?),
+        (Some(Err(kind)), None) => (number(kind)?, 0),
     };
     if call.which == GENERATE_ASCII_FRAME {
         same_in_a_vec(call, kind, usize::from(value), &buffer)?;

@@ -8,7 +8,13 @@ pub struct Bounded<'a> {
 
 impl<'a> Bounded<'a> {
     pub fn over(lent: &'a mut [u8]) -> Self {
-        Bounded { lent, len: 0 }
+        Bounded::holding(lent, 0)
+    }
+
+    /// A response that already holds so many bytes, at most as many as are lent.
+    pub fn holding(lent: &'a mut [u8], len: usize) -> Self {
+        assert!(len <= lent.len());
+        Bounded { lent, len }
     }
 }
 

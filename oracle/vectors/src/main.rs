@@ -1,10 +1,12 @@
 //! Calls of rmodbus 0.13.0 and its answers, as records for the programs that compare the port with it.
 //!
-//!     vectors stream N SEED    at least N records in binary: the edges, the families, then random ones up to N
-//!     vectors list SEED        the fixed list as text: the edges, then short random ones
+//!     vectors stream N SEED    at least N records of modules 1 to 3 in binary: the edges, the families, then random
+//!                              ones up to N
+//!     vectors tables N SEED    the same of module 4
+//!     vectors list SEED        the fixed list of modules 1 to 3 as text: the edges, then short random ones
 //!
-//! It ends with an error where the crate panics and document 01 foresees none, or the other way round, and where a kind
-//! of answer that a call can give did not come up.
+//! It ends with an error where the crate panics and document 01 foresees none, or the other way round, where the crate
+//! differs from document 01 in a way not known, and where a kind of answer that a call can give did not come up.
 mod answer;
 mod bounded;
 mod chance;
@@ -13,19 +15,30 @@ mod exhaustive;
 mod frames;
 mod random;
 mod record;
+mod tables;
 mod window;
 
 use chance::Chance;
-use record::{Call, FORMAT, NAMES};
+use record::{Call, CALLS, FORMAT, NAMES};
+use std::collections::BTreeSet;
 use std::io::{BufWriter, ErrorKind, StdoutLock, Write};
+use std::ops::Range;
 use std::process::exit;
 
 const LIST: usize = 4400;
 const LIST_RECORD: usize = 64; // the longest random record in the list
 
 /// The kinds each call can answer, by call number.
-const KINDS: [&[u8]; 9] =
-    [&[], &[0], &[0, 23], &[0, 23], &[0, 21], &[0, 21, 23], &[0, 21], &[0, 10, 21, 23], &[0, 10, 21, 23]];
+#[rustfmt::skip]
+const KINDS: [&[u8]; CALLS] = [
+    &[], &[0], &[0, 23], &[0, 23], &[0, 21], &[0, 21, 23], &[0, 21], &[0, 10, 21, 23], &[0, 10, 21, 23],
+    &[0, 21], &[0, 21], &[0, 21], &[0, 21], &[0, 21],
+    &[0, 22], &[0, 22], &[0, 21, 22], &[0, 21, 22], &[0, 22],
+    &[0, 22], &[0, 22], &[0, 21, 22], &[0, 21, 22], &[0, 22],
+];
+
+const MODULES_1_TO_3: Range<usize> = 1..9;
+const MODULE_4: Range<usize> = 9..CALLS;
 
 fn main() {
     let args: Vec<String> = std::env::args().skip(1).collect();
@@ -33,8 +46,9 @@ fn main() {
     answer::hush_the_crate();
     match (args.first().map(String::as_str), &numbers[..]) {
         (Some("stream"), &[n, seed]) if args.len() == 3 => stream(n as usize, seed),
+        (Some("tables"), &[n, seed]) if args.len() == 3 => tables(n as usize, seed),
         (Some("list"), &[seed]) if args.len() == 2 => list(seed),
-        _ => fail("usage: vectors stream N SEED | vectors list SEED"),
+        _ => fail("usage: vectors stream N SEED | vectors tables N SEED | vectors list SEED"),
     }
 }
 
@@ -46,7 +60,23 @@ fn stream(n: usize, seed: u64) {
     while out.total() < n {
         out.put(random::random(&mut chance));
     }
-    out.finish();
+    out.finish(MODULES_1_TO_3);
+}
+
+fn tables(n: usize, seed: u64) {
+    let mut out = Writer::new(false);
+    tables::edges::edges(&mut |call| out.put_table(call));
+    tables::exhaustive::exhaustive(seed, &mut |call| out.put_table(call));
+    let mut chance = Chance(seed);
+    while out.total() < n {
+        out.put_table(tables::random::random(&mut chance));
+    }
+    for known in tables::answer::DIFFERENCES {
+        if !out.differences.contains(known) {
+            fail(&format!("the crate never differed by this: {known}"));
+        }
+    }
+    out.finish(MODULE_4);
 }
 
 fn list(seed: u64) {
@@ -64,20 +94,21 @@ fn list(seed: u64) {
             out.put(call);
         }
     }
-    out.finish();
+    out.finish(MODULES_1_TO_3);
 }
 
 struct Writer {
     out: BufWriter<StdoutLock<'static>>,
     as_text: bool,
-    count: [usize; 9],
-    seen: [[bool; 256]; 9],
+    count: [usize; CALLS],
+    seen: [[bool; 256]; CALLS],
+    differences: BTreeSet<&'static str>,
 }
 
 impl Writer {
     fn new(as_text: bool) -> Self {
         let out = BufWriter::with_capacity(1 << 16, std::io::stdout().lock());
-        Writer { out, as_text, count: [0; 9], seen: [[false; 256]; 9] }
+        Writer { out, as_text, count: [0; CALLS], seen: [[false; 256]; CALLS], differences: BTreeSet::new() }
     }
 
     fn total(&self) -> usize {
@@ -92,14 +123,25 @@ impl Writer {
                 NAMES[which], call.small, call.data_len, call.room, call.input
             ))
         });
+        self.put_record(which, answer.kind, &call.record(&answer));
+    }
+
+    fn put_table(&mut self, call: tables::record::Call) {
+        let which = usize::from(call.which);
+        let answer =
+            tables::answer::answer(&call).unwrap_or_else(|why| fail(&format!("{why}: {} {call}", NAMES[which])));
+        self.differences.extend(answer.difference);
+        self.put_record(which, answer.kind, &call.record(&answer));
+    }
+
+    fn put_record(&mut self, which: usize, kind: u8, record: &[u8]) {
         self.count[which] += 1;
-        self.seen[which][usize::from(answer.kind)] = true;
-        let record = call.record(&answer);
+        self.seen[which][usize::from(kind)] = true;
         if self.as_text {
             let digits: String = record.iter().map(|b| format!("{b:02X}")).collect();
             self.text(&(digits + "\n"));
         } else {
-            self.bytes(&record);
+            self.bytes(record);
         }
     }
 
@@ -111,9 +153,9 @@ impl Writer {
         self.out.write_all(bytes).unwrap_or_else(unwritten);
     }
 
-    fn finish(mut self) {
+    fn finish(mut self, calls: Range<usize>) {
         self.out.flush().unwrap_or_else(unwritten);
-        for which in 1..9 {
+        for which in calls.clone() {
             for kind in 0..=255 {
                 if self.seen[which][kind] != KINDS[which].contains(&(kind as u8)) {
                     fail(&format!(
@@ -123,7 +165,7 @@ impl Writer {
                 }
             }
         }
-        let each: Vec<String> = (1..9).map(|w| format!("{} {}", NAMES[w], self.count[w])).collect();
+        let each: Vec<String> = calls.map(|w| format!("{} {}", NAMES[w], self.count[w])).collect();
         eprintln!("{} records: {}", self.total(), each.join(" "));
     }
 }

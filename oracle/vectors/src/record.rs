@@ -9,8 +9,17 @@ pub const GENERATE_ASCII_FRAME: u8 = 6;
 pub const GUESS_REQUEST_FRAME_LEN: u8 = 7;
 pub const GUESS_RESPONSE_FRAME_LEN: u8 = 8;
 
-/// Short names by call number, as the counts are printed.
-pub const NAMES: [&str; 9] = ["", "crc", "lrc", "chr_to_hex", "hex_to_chr", "parse", "generate", "request", "response"];
+/// Short names by call number, as the counts are printed; from 9 on the calls of tables/record.rs.
+#[rustfmt::skip]
+pub const NAMES: [&str; CALLS] = [
+    "", "crc", "lrc", "chr_to_hex", "hex_to_chr", "parse", "generate", "request", "response",
+    "push", "extend", "resize", "cut_end", "clear",
+    "get_coil", "set_coil", "get_coils", "get_discretes", "set_coils",
+    "get_holding", "set_holding", "get_holdings", "get_inputs", "set_holdings",
+];
+
+/// One more than the last call number.
+pub const CALLS: usize = 24;
 
 pub const RTU: u8 = 0;
 pub const ASCII: u8 = 1;

@@ -1,0 +1,93 @@
+-- The driver (document 01, "What the driver returns"): every fault in document 01's order, one line each, the first wins; and what each
+-- outcome leaves.
+-- Assumes nothing.
+use mathlib.Core.List.{List, [], _∷_, _++_}
+use Prim.Native.Nat.{ℕ, _+_}
+use Rattle.modbus.specs.Step.{Step, stop, go, _>>=_, _>>_, need, choose, _≤?_, _≟_, _and?_, _or?_, not?}
+use Rattle.modbus.specs.Table.{Range, Tables}
+use Rattle.modbus.specs.Request.{Fn, code, functions, Ask, reading, writing, apply, found, answer, exception}
+use Rattle.modbus.specs.Frame.{wrap}
+use Rattle.modbus.specs.Setup.{Setup, proto, valid?, roomy?, Within, within?}
+use Rattle.modbus.specs.Unit.{broadcast?, ours?}
+use Rattle.modbus.specs.Decode.{Message, unitOf, numberOf, Silent, readIgnored, foreign, wrongLength, badFunction, noRoom, badSetup, number, unwrap, isRead?, lengthy?, valued?, asked}
+
+-- a fault is silent, or comes with a message and an exception code
+pub data Fault : Type 0 where
+  quiet : Silent → Fault
+  coded : Message → ℕ → Fault
+
+unfoldable pub quietly : {A : Type 0} → Step Silent A → Step Fault A
+quietly (stop x) = stop (quiet x)
+quietly (go a) = go a
+
+-- the function of a number, or the fault
+unfoldable pub find : {F : Type 0} → F → ℕ → List Fn → Step F Fn
+find x n [] = stop x
+find x n (fn ∷ l) = choose (n ≟ code fn) (go fn) (find x n l)
+
+-- all the cells it names
+abbrev pub AllWithin : Setup → List Range → Type 0
+AllWithin s [] = Unit {0}
+AllWithin s (r ∷ l) = Within s r × AllWithin s l
+
+unfoldable pub allWithin? : (s : Setup) (l : List Range) → Dec (AllWithin s l)
+allWithin? s [] = yes tt
+allWithin? s (r ∷ l) = within? s r and? allWithin? s l
+
+abbrev pub Inside : Setup → Ask → Type 0
+Inside s a = AllWithin s (reading a ++ writing a)
+
+abbrev pub inside? : (s : Setup) (a : Ask) → Dec (Inside s a)
+inside? s a = allWithin? s (reading a ++ writing a)
+
+-- ---- document 01's order: BadSetup, NoRoom, FrameBroken, FrameCheck, Foreign, BadFunction, unsupported function (code 1), broadcast read,
+-- WrongLength, value (code 3), address (code 2)
+
+-- once the function is known
+abbrev pub fromFunction : Setup → Message → Fn → Step Fault (Message × Ask)
+fromFunction s m fn = do
+  need (lengthy? fn (m .body)) (quiet wrongLength)
+  need (valued? fn (m .body)) (coded m 3)
+  need (inside? s (asked fn (m .body))) (coded m 2)
+  go (m, asked fn (m .body))
+
+-- once the frame is taken apart
+abbrev pub fromUnit : Setup → Message → Step Fault (Message × Ask)
+fromUnit s m = do
+  need (broadcast? s (unitOf m) or? ours? s (unitOf m)) (quiet foreign)
+  need (numberOf m ≤? 127) (quiet badFunction)
+  fn ← find (coded m 1) (numberOf m) functions
+  need (not? (broadcast? s (unitOf m) and? isRead? fn)) (quiet readIgnored)
+  fromFunction s m fn
+
+-- from the start
+unfoldable pub judge : Setup → List ℕ → Step Fault (Message × Ask)
+judge s f = do
+  need (valid? s) (quiet badSetup)
+  need (roomy? s) (quiet noRoom)
+  m ← quietly (unwrap (proto s) f)
+  fromUnit s m
+
+-- an outcome, its exception code, the reply and the tables afterwards
+pub record Result : Type 0 where
+  pub outcome : ℕ
+  pub exceptionCode : ℕ
+  pub reply : List ℕ
+  pub after : Tables
+
+abbrev pub silently : ℕ → ℕ → Tables → Result
+silently o x t = record { outcome = o; exceptionCode = x; reply = []; after = t }
+
+abbrev pub replying : Setup → Message → ℕ → ℕ → List ℕ → Tables → Result
+replying s m o x pdu t = record { outcome = o; exceptionCode = x; reply = wrap (proto s) (m .tag) (unitOf m ∷ pdu); after = t }
+
+-- only outcomes 0 and 1 may change cells; a broadcast is never answered; the answer is read off the tables after the write
+unfoldable pub settle : Setup → Tables → Step Fault (Message × Ask) → Result
+settle s t (stop (quiet o)) = silently (number o) 0 t
+settle s t (stop (coded m x)) =
+    choose (broadcast? s (unitOf m)) (silently 3 x t) (replying s m 2 x (exception (numberOf m) x) t)
+settle s t (go (m, a)) =
+    choose (broadcast? s (unitOf m)) (silently 1 0 (apply a t)) (replying s m 0 0 (answer a (found a (apply a t))) (apply a t))
+
+unfoldable pub drive : Setup → Tables → List ℕ → Result
+drive s t f = settle s t (judge s f)

@@ -1,0 +1,25 @@
+-- `probe::module4::probe_set_coil` meets its contract: it hands the answer on in numbers, and the buffer as it is.
+-- Assumes nothing.
+use mathlib.Core.Path.{ap, _∙_}
+use Prim.Native.Nat.{ℕ}
+use borrow.Author.Needs.{needs}
+use Rattle.probe.proofs.module4.probe_set_coil.Statement.{statement}
+use Rattle.probe.proofs.module4.probe_set_coil.Tie as tie
+
+set-coil-requires : tie.Need-set-coil-requires
+set-coil-requires c κs = search needs
+
+done-answer-requires : tie.Need-done-answer-requires
+done-answer-requires c κs = search needs
+
+same-length : tie.Need-same-length
+same-length c = search needs
+
+returns : tie.Need-returns
+returns c =
+    let called = c .before .before .before .set-coil in
+    ap (λ (n : ℕ × ℕ). (n, called .last .0)) (c .done-answer .ensures) ∙ called .ensures
+
+pub probe-set-coil-spec : {M : Type 1} → statement M
+probe-set-coil-spec =
+    tie.close (tie.spec set-coil-requires done-answer-requires same-length returns)

@@ -1,0 +1,25 @@
+-- `probe::module4::probe_set_holding` meets its contract: it hands the answer on in numbers, and the buffer as it is.
+-- Assumes nothing.
+use mathlib.Core.Path.{ap, _∙_}
+use Prim.Native.Nat.{ℕ}
+use borrow.Author.Needs.{needs}
+use Rattle.probe.proofs.module4.probe_set_holding.Statement.{statement}
+use Rattle.probe.proofs.module4.probe_set_holding.Tie as tie
+
+set-holding-requires : tie.Need-set-holding-requires
+set-holding-requires c κs = search needs
+
+done-answer-requires : tie.Need-done-answer-requires
+done-answer-requires c κs = search needs
+
+same-length : tie.Need-same-length
+same-length c = search needs
+
+returns : tie.Need-returns
+returns c =
+    let called = c .before .before .before .set-holding in
+    ap (λ (n : ℕ × ℕ). (n, called .last .0)) (c .done-answer .ensures) ∙ called .ensures
+
+pub probe-set-holding-spec : {M : Type 1} → statement M
+probe-set-holding-spec =
+    tie.close (tie.spec set-holding-requires done-answer-requires same-length returns)

@@ -1,0 +1,4 @@
+pub mod CallsLaws
+pub mod RunsLaws
+pub mod CoilsUnique
+pub mod RegistersUnique

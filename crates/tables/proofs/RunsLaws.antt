@@ -1,0 +1,306 @@
+-- Runs of packed cells, moved as numbers: a run read from two bytes, a run put into one byte, whole bytes, and the bytes of a reply.
+-- Assumes nothing.
+use mathlib.Core.Path.{_≡_, refl, sym, ap, _∙_}
+use mathlib.Core.List.{List, [], _∷_, _++_, append-nil, append-assoc}
+use Prim.Native.Nat.{ℕ, zero, suc, _+_, _-_, _*_, _/_, _%_, _^_, _≤_, _<_}
+use native.Mathlib.Omega.{arith}
+use native.Mathlib.Decide.{ℕ-discrete, decLt, decLe}
+use native.Mathlib.Nat.{add-zero, zero-add, add-assoc, add-suc, suc-add, mod-lt, not-suc-le-zero, pow-suc}
+use lib.ListN.{length, getD, set, replicate, length-set, length-append, length-replicate}
+use lib.Seq.{getD-set-same, getD-set-other, ext-getD, sets}
+use lib.Bits.{bitAnd, bitOr}
+use lib.Pow.{pow-pos}
+use Rattle.modbus.specs.Bytes.{All, Bytes, pack}
+use Rattle.modbus.specs.Table.{bit, part}
+use Rattle.modbus.specs.Request.{shown}
+use Rattle.modbus.specs.Storage.{coilAt, packed, store}
+use Rattle.modbus.proofs.BytesLaws.{byte-at, bytes-set}
+use Rattle.modbus.proofs.CargoLaws.{length-packed}
+use Rattle.modbus.proofs.BitLaws.{bitAt, bits-determine, bit-half, bit-shr, bit-mod, bit-below, bit-above, low-masked, merged, merged-shl, merged-byte, merged-in, merged-out}
+use Rattle.modbus.proofs.StorageLaws.{length-part, getD-part, part-add, part-all, coil-bit, packed-law, store-append, store-length, store-in, store-out, store-bytes, coils-determine}
+use Rattle.tables.specs.Runs.{binary}
+
+-- ---- bits as a number
+
+abbrev Bits : List ℕ → Type 0
+Bits vs = All (λ v. v ≤ 1) vs
+
+binary-lt : (vs : List ℕ) → Bits vs → binary vs < 2 ^ length vs
+unfolding binary
+binary-lt [] a = omega arith
+binary-lt (v ∷ vs) a = omega (arith, binary-lt vs (a .1), pow-suc 2 (length vs), a .0)
+
+binary-bit : (vs : List ℕ) → Bits vs → (i : ℕ) → i < length vs → bitAt (binary vs) i ≡ getD vs i 0
+unfolding binary
+binary-bit [] a i h = absurd (not-suc-le-zero h)
+binary-bit (v ∷ vs) a zero h = omega (arith, a .0)
+binary-bit (v ∷ vs) a (suc i) h =
+    let e : (v + 2 * binary vs) / 2 ≡ binary vs = omega (arith, a .0) in
+    sym (bit-half (v + 2 * binary vs) i) ∙ ap (λ (m : ℕ). bitAt m i) e ∙ binary-bit vs (a .1) i (omega arith)
+
+-- no other number has those bits and none above
+binary-only : (vs : List ℕ) (x : ℕ) → Bits vs → x < 2 ^ length vs → ((i : ℕ) → i < length vs → bitAt x i ≡ getD vs i 0)
+    → x ≡ binary vs
+binary-only vs x a h e =
+    bits-determine (length vs) x (binary vs) h (binary-lt vs a) (λ i l. e i l ∙ sym (binary-bit vs a i l))
+
+-- ---- a run within one byte
+
+-- that byte changed, so that its bits in the run are the values and its others are as they were
+store-byte : (l : List ℕ) (s : ℕ) (vs : List ℕ) (x : ℕ) → Bytes l → x < 256 → Bits vs → s / 8 < length l → s % 8 + length vs ≤ 8
+    → ((i : ℕ) → i < length vs → bitAt x (s % 8 + i) ≡ getD vs i 0)
+    → ((k : ℕ) → k < 8 → ¬ ((s % 8 ≤ k) × (k < s % 8 + length vs)) → bitAt x k ≡ bitAt (getD l (s / 8) 0) k)
+    → set l (s / 8) x ≡ store packed l s vs
+unfolding coilAt
+store-byte l s vs x y f a h room inside outside =
+    coils-determine (set l (s / 8) x) (store packed l s vs) (bytes-set l (s / 8) x y f) (store-bytes l s vs y a)
+    (length-set l (s / 8) x ∙ sym (store-length packed-law l s vs))
+    (λ k g. at k (ℕ-discrete (k / 8) (s / 8)) (decLe s k) (decLt k (s + length vs)))
+  where
+    in-byte : (k : ℕ) → k / 8 ≡ s / 8 → coilAt (set l (s / 8) x) k ≡ bitAt x (k % 8)
+    in-byte k e = rw e (ap (λ (b : ℕ). bitAt b (k % 8)) (getD-set-same l (s / 8) x 0 h))
+
+    old : (k : ℕ) → k / 8 ≡ s / 8 → ¬ ((s ≤ k) × (k < s + length vs)) → coilAt (set l (s / 8) x) k ≡ coilAt (store packed l s vs) k
+    old k e o =
+        in-byte k e ∙ outside (k % 8) (omega arith) (λ p. o (omega arith, omega arith))
+        ∙ ap (λ (j : ℕ). bitAt (getD l j 0) (k % 8)) (sym e) ∙ sym (store-out packed-law l s vs k a o)
+
+    at : (k : ℕ) → Dec (k / 8 ≡ s / 8) → Dec (s ≤ k) → Dec (k < s + length vs)
+        → coilAt (set l (s / 8) x) k ≡ coilAt (store packed l s vs) k
+    at k (no e) d d' =
+        ap (λ (b : ℕ). bitAt b (k % 8)) (getD-set-other l (s / 8) (k / 8) x 0 e)
+        ∙ sym (store-out packed-law l s vs k a (λ p. e (omega arith)))
+    at k (yes e) (yes p) (yes q) =
+        let i = k - s in
+        let m : s + i ≡ k = omega arith in
+        let r : s % 8 + i ≡ k % 8 = omega arith in
+        in-byte k e ∙ rw r at (inside i (omega arith)) ∙ sym (rw m at (store-in packed-law l s vs i a (omega arith) (omega arith)))
+    at k (yes e) (no p) d = old k e (λ h. p (h .0))
+    at k (yes e) (yes p) (no q) = old k e (λ h. q (h .1))
+
+-- the same by masks
+pub store-masked : (l : List ℕ) (s n x : ℕ) (vs : List ℕ) → Bytes l → Bits vs → s / 8 < length l → s % 8 + n ≤ 8 → length vs ≡ n
+    → x ≡ binary vs
+    → set l (s / 8) (bitOr (bitAnd (getD l (s / 8) 0) (255 - 255 / 2 ^ (8 - n) * 2 ^ (s % 8) % 256)) (x * 2 ^ (s % 8) % 256))
+    ≡ store packed l s vs
+store-masked l s n x vs y a h room e f =
+    let b = getD l (s / 8) 0 in
+    let byte = byte-at l (s / 8) y in
+    let fits : x < 2 ^ n = rw (f, ← e) (binary-lt vs a) in
+    let z = merged-byte b (s % 8) n x byte room fits in
+    rw (merged-shl b (s % 8) n x room fits) (store-byte l s vs (merged b (s % 8) n x) y z a h (omega arith)
+    (λ i g. merged-in b (s % 8) n x byte room fits i (omega arith) ∙ rw f (binary-bit vs a i g))
+    (λ k g o. merged-out b (s % 8) n x byte room fits k g (rw e at o)))
+
+-- ---- a run read from two bytes: that of its first cell, and the next, which need not be there where no cell of the run lies in it
+
+coil-in : (l : List ℕ) (s last i : ℕ) → Bytes l → i < 8 → (s / 8 < (s + i) / 8 → (s + i) / 8 ≡ last)
+    → bitAt (getD l last 0 * 256 + getD l (s / 8) 0) (s % 8 + i) ≡ coilAt l (s + i)
+unfolding coilAt
+coil-in l s last i y h next = by (decLt (s % 8 + i) 8)
+  where
+    low : ℕ
+    low = getD l (s / 8) 0
+
+    byte : low < 256
+    byte = byte-at l (s / 8) y
+
+    by : Dec (s % 8 + i < 8) → bitAt (getD l last 0 * 256 + low) (s % 8 + i) ≡ coilAt l (s + i)
+    by (yes f) =
+        let q : (s + i) / 8 ≡ s / 8 = omega arith in
+        let r : (s + i) % 8 ≡ s % 8 + i = omega arith in
+        rw (q, r) (bit-below (getD l last 0) 8 low (s % 8 + i) byte f)
+    by (no f) =
+        let q : (s + i) / 8 ≡ last = next (omega (arith, f)) in
+        let r : 8 + (s + i) % 8 ≡ s % 8 + i = omega (arith, f) in
+        rw (q, ← r) (bit-above (getD l last 0) 8 low ((s + i) % 8) byte)
+
+run-read : (l : List ℕ) (s last n : ℕ) → Bytes l → n ≤ 8 → ((i : ℕ) → i < n → s / 8 < (s + i) / 8 → (s + i) / 8 ≡ last)
+    → (getD l last 0 * 256 + getD l (s / 8) 0) / 2 ^ (s % 8) % 2 ^ n ≡ binary (part (coilAt l) s n)
+run-read l s last n y h next =
+    binary-only (part (coilAt l) s n) _ (part-all (coilAt l) (λ v. v ≤ 1) s n (coil-bit l)) (rw length-part (mod-lt _ (pow-pos n)))
+    (λ i g. at i (rw length-part at g))
+  where
+    x : ℕ
+    x = getD l last 0 * 256 + getD l (s / 8) 0
+
+    at : (i : ℕ) → i < n → bitAt (x / 2 ^ (s % 8) % 2 ^ n) i ≡ getD (part (coilAt l) s n) i 0
+    at i g =
+        bit-mod (x / 2 ^ (s % 8)) n i g ∙ bit-shr x (s % 8) i ∙ coil-in l s last i y (omega arith) (next i g)
+        ∙ sym (getD-part (coilAt l) s n i 0 g)
+
+-- the i-th eight cells from s on: both bytes move on with i
+pub eight-read : (l : List ℕ) (s i x : ℕ) → Bytes l
+    → x ≡ (getD l ((s + 7) / 8 + i) 0 * 256 + getD l (s / 8 + i) 0) / 2 ^ (s % 8) % 256 → x ≡ binary (part (coilAt l) (s + 8 * i) 8)
+eight-read l s i x y e =
+    let q : s / 8 + i ≡ (s + 8 * i) / 8 = omega arith in
+    let r : s % 8 ≡ (s + 8 * i) % 8 = omega arith in
+    rw (q, r) at e ∙ run-read l (s + 8 * i) ((s + 7) / 8 + i) 8 y (omega arith) (λ k h j. omega arith)
+
+-- n cells, the others masked away
+pub run-masked : (l : List ℕ) (s last n x : ℕ) → Bytes l → n ≤ 8 → ((i : ℕ) → i < n → s / 8 < (s + i) / 8 → (s + i) / 8 ≡ last)
+    → x ≡ (getD l last 0 * 256 + getD l (s / 8) 0) / 2 ^ (s % 8) % 256 → bitAnd x (255 / 2 ^ (8 - n)) ≡ binary (part (coilAt l) s n)
+run-masked l s last n x y h next e =
+    let w = (getD l last 0 * 256 + getD l (s / 8) 0) / 2 ^ (s % 8) in
+    rw e (low-masked w n h ∙ run-read l s last n y h next)
+
+-- ---- whole bytes
+
+store-none : (l : List ℕ) (s : ℕ) → store packed l s [] ≡ l
+unfolding store
+store-none l s = refl
+
+pack-none : pack [] ≡ []
+unfolding pack
+pack-none = refl
+
+sets-append : (l : List ℕ) (i : ℕ) (vs ws : List ℕ) → sets l i (vs ++ ws) ≡ sets (sets l i vs) (i + length vs) ws
+sets-append l i [] ws = rw add-zero
+sets-append l i (v ∷ vs) ws = rw (add-suc, ← suc-add) (sets-append (set l i v) (suc i) vs ws)
+
+module _ (f : ℕ → ℕ) where
+  pack-eight : (s : ℕ) (r : List ℕ) → pack (part f s 8 ++ r) ≡ binary (part f s 8) ∷ pack r
+  unfolding pack part binary
+  pack-eight s r = ap (λ (x : ℕ). x ∷ pack r) (omega arith)
+
+  eights : (s n : ℕ) → part f s (8 * suc n) ≡ part f s 8 ++ part f (s + 8) (8 * n)
+  eights s n = let e : 8 * suc n ≡ 8 + 8 * n = omega arith in rw e (part-add f s 8 (8 * n))
+
+  pack-eights : (s n : ℕ) → pack (part f s (8 * suc n)) ≡ binary (part f s 8) ∷ pack (part f (s + 8) (8 * n))
+  pack-eights s n = ap pack (eights s n) ∙ pack-eight s (part f (s + 8) (8 * n))
+
+  none : (s : ℕ) → part f s (8 * 0) ≡ []
+  unfolding part
+  none s = refl
+
+  pack-append : (s n : ℕ) (r : List ℕ) → pack (part f s (8 * n) ++ r) ≡ pack (part f s (8 * n)) ++ pack r
+  pack-append s zero r = rw (none s, pack-none)
+  pack-append s (suc n) r =
+      rw (pack-eights s n, eights s n, append-assoc, pack-eight s (part f (s + 8) (8 * n) ++ r), pack-append (s + 8) n r)
+
+  -- one byte of n, of which i are done
+  pub pack-step : (l : List ℕ) (at s n i x : ℕ) (z : List ℕ) → sets l (at + i) (pack (part f (s + 8 * i) (8 * (n - i)))) ≡ z
+      → x ≡ binary (part f (s + 8 * i) 8) → i < n
+      → sets (set l (at + i) x) (at + (i + 1)) (pack (part f (s + 8 * (i + 1)) (8 * (n - (i + 1))))) ≡ z
+  pack-step l at s n i x z inv e h =
+      let k : n - i ≡ suc (n - (i + 1)) = omega arith in
+      let p : at + (i + 1) ≡ suc (at + i) = omega arith in
+      let q : s + 8 * (i + 1) ≡ s + 8 * i + 8 = omega arith in
+      rw (e, p, q) (rw (k, pack-eights (s + 8 * i) (n - (i + 1))) at inv)
+
+  pub pack-done : (l : List ℕ) (at s n i : ℕ) (z : List ℕ) → sets l (at + i) (pack (part f (s + 8 * i) (8 * (n - i)))) ≡ z → n ≤ i → l ≡ z
+  pack-done l at s n i z inv h = let k : n - i ≡ 0 = omega arith in rw (k, none, pack-none) at inv
+
+  module _ (bits : (i : ℕ) → f i ≤ 1) where
+    eight-bits : (s : ℕ) → Bits (part f s 8)
+    eight-bits s = part-all f (λ v. v ≤ 1) s 8 bits
+
+    -- eight cells that fill a byte
+    store-eight : (l : List ℕ) (j s : ℕ) → Bytes l → j < length l → set l j (binary (part f s 8)) ≡ store packed l (8 * j) (part f s 8)
+    store-eight l j s y h =
+        let q : 8 * j / 8 ≡ j = omega arith in
+        let r : 8 * j % 8 ≡ 0 = omega arith in
+        let n = length-part f s 8 in
+        rw q at (store-byte l (8 * j) (part f s 8) (binary (part f s 8)) y (rw n at (binary-lt (part f s 8) (eight-bits s))) (eight-bits s)
+        (rw q h) (omega arith)
+        (λ i g. rw (r, zero-add) (binary-bit (part f s 8) (eight-bits s) i g))
+        (λ k g o. absurd (o (omega arith, omega arith))))
+
+    -- whole bytes are set at once
+    store-whole : (l : List ℕ) (j s n : ℕ) → Bytes l → j + n ≤ length l
+        → sets l j (pack (part f s (8 * n))) ≡ store packed l (8 * j) (part f s (8 * n))
+    store-whole l j s zero y h = rw (none s, pack-none) (sym (store-none l (8 * j)))
+    store-whole l j s (suc n) y h =
+        let x = binary (part f s 8) in
+        let e : 8 * j + 8 ≡ 8 * suc j = omega arith in
+        let b : x < 256 = rw length-part at (binary-lt (part f s 8) (eight-bits s)) in
+        rw (
+          pack-eights s n,
+          eights s n,
+          store-append packed l (8 * j) (part f s 8) (part f (s + 8) (8 * n)),
+          ← store-eight l j s y (omega arith),
+          length-part,
+          e,
+        ) (store-whole (set l j x) (suc j) (s + 8) n (bytes-set l j x y b) (rw length-set (omega arith)))
+
+-- ---- the bytes of a reply
+
+binary-pad : (vs : List ℕ) (n : ℕ) → binary (vs ++ replicate n 0) ≡ binary vs
+unfolding binary
+binary-pad [] zero = refl
+binary-pad [] (suc n) = let e = binary-pad [] n in omega arith
+binary-pad (v ∷ vs) n = ap (λ (x : ℕ). v + 2 * x) (binary-pad vs n)
+
+-- eight bits in a list are a byte
+pack-list : (vs : List ℕ) → length vs ≡ 8 → pack vs ≡ binary vs ∷ []
+pack-list vs h =
+    let f : ℕ → ℕ = λ i. getD vs i 0 in
+    let at : (i : ℕ) → i < length (part f 0 8) → getD (part f 0 8) i 0 ≡ getD vs i 0 =
+    λ i g. getD-part f 0 8 i 0 (rw length-part at g) ∙ ap f (zero-add i) in
+    let e : part f 0 8 ≡ vs = ext-getD 0 (part f 0 8) vs (length-part f 0 8 ∙ sym h) at in
+    rw (append-nil, pack-none, e) at (pack-eight f 0 [])
+
+module _ (f : ℕ → ℕ) (s : ℕ) where
+  shown-whole : (n : ℕ) → shown bit (part f s (8 * n)) ≡ pack (part f s (8 * n))
+  shown-whole n = let k : 8 * ((8 * n + 7) / 8) - 8 * n ≡ 0 = omega arith in rw (length-part, k, append-nil)
+
+  -- the last byte where t cells are left
+  shown-rest : (n t : ℕ) → 0 < t → t < 8
+      → shown bit (part f s (8 * n + t)) ≡ pack (part f s (8 * n)) ++ (binary (part f (s + 8 * n) t) ∷ [])
+  shown-rest n t h k =
+      let e : 8 * ((8 * n + t + 7) / 8) - (8 * n + t) ≡ 8 - t = omega arith in
+      let vs = part f (s + 8 * n) t in
+      let l : length (vs ++ replicate (8 - t) 0) ≡ 8 = rw (length-append, length-part, length-replicate) (omega arith) in
+      rw (
+        length-part f s (8 * n + t),
+        e,
+        part-add f s (8 * n) t,
+        append-assoc,
+        pack-append f s n (vs ++ replicate (8 - t) 0),
+        pack-list (vs ++ replicate (8 - t) 0) l,
+        binary-pad,
+      )
+
+  module _ (l m : List ℕ) (at n : ℕ) (whole : m ≡ sets l at (pack (part f s (8 * (n / 8))))) where
+    pub show-whole : n % 8 ≤ 0 → m ≡ sets l at (shown bit (part f s n))
+    show-whole h =
+        let e : 8 * (n / 8) ≡ n = omega arith in
+        whole ∙ ap (sets l at) (sym (shown-whole (n / 8)) ∙ ap (λ (k : ℕ). shown bit (part f s k)) e)
+
+    pub show-rest : (x : ℕ) → 0 < n % 8 → x ≡ binary (part f (s + 8 * (n / 8)) (n % 8))
+        → set m (at + n / 8) x ≡ sets l at (shown bit (part f s n))
+    show-rest x h e =
+        let k : 8 * (n / 8) + n % 8 ≡ n = omega arith in
+        let vs = part f s (8 * (n / 8)) in
+        let c : length (pack vs) ≡ n / 8 = length-packed vs (n / 8) (length-part f s (8 * (n / 8))) in
+        let r : shown bit (part f s n) ≡ pack vs ++ (x ∷ []) =
+        ap (λ (j : ℕ). shown bit (part f s j)) (sym k) ∙ shown-rest (n / 8) (n % 8) h (omega arith)
+        ∙ ap (λ (j : ℕ). pack vs ++ (j ∷ [])) (sym e) in
+        rw whole (sym (ap (sets l at) r ∙ sets-append l at (pack vs) (x ∷ [])
+        ∙ ap (λ (j : ℕ). set (sets l at (pack vs)) (at + j) x) c))
+
+-- ---- a run of any length: to the end of a byte, whole bytes, and what is left
+
+module _ (f : ℕ → ℕ) (bits : (i : ℕ) → f i ≤ 1) where
+  store-middle : (l : List ℕ) (s k n : ℕ) → Bytes l → s / 8 + n ≤ length l → (0 < n → s % 8 ≡ 0)
+      → sets l (s / 8) (pack (part f k (8 * n))) ≡ store packed l s (part f k (8 * n))
+  store-middle l s k zero y h even = rw (none f k, pack-none) (sym (store-none l s))
+  store-middle l s k (suc n) y h even =
+      let z = even (omega arith) in
+      let e : 8 * (s / 8) ≡ s = omega arith in
+      rw e at (store-whole f bits l (s / 8) k (suc n) y h)
+
+  split-three : (h k n : ℕ) → h + k ≤ n → part f 0 n ≡ part f 0 h ++ (part f h k ++ part f (h + k) (n - (h + k)))
+  split-three h k n l =
+      let e : n ≡ h + (k + (n - (h + k))) = omega arith in
+      ap (part f 0) e ∙ part-add f 0 h (k + (n - (h + k))) ∙ rw (zero-add, part-add f h k (n - (h + k)))
+
+  -- from l by way of a and b to d
+  pub store-three : (l a b d : List ℕ) (s head whole n : ℕ) → Bytes a → (s + head) / 8 + whole ≤ length a
+      → (0 < whole → (s + head) % 8 ≡ 0) → head + 8 * whole ≤ n → a ≡ store packed l s (part f 0 head)
+      → b ≡ sets a ((s + head) / 8) (pack (part f head (8 * whole)))
+      → d ≡ store packed b (s + (head + 8 * whole)) (part f (head + 8 * whole) (n - (head + 8 * whole)))
+      → d ≡ store packed l s (part f 0 n)
+  store-three l a b d s head whole n y room even h p q r =
+      let m = store-middle a (s + head) head whole y room even in
+      r ∙ rw (split-three head (8 * whole) n h, store-append, length-part, ← p, store-append, length-part, ← m, ← q, add-assoc)

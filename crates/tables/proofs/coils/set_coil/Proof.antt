@@ -1,0 +1,59 @@
+-- `tables::coils::set_coil` meets its contract.
+-- Assumes nothing.
+use mathlib.Core.Path.{sym, ap, _∙_}
+use Prim.Native.Nat.{ℕ, _/_}
+use native.Mathlib.Omega.{arith}
+use borrow.Author.Needs.{needs}
+use lib.ListN.{set}
+use Rattle.modbus.specs.Paper.{toldWith}
+use Rattle.modbus.specs.Storage.{putCoil}
+use Rattle.modbus.proofs.StepLaws.{pass, fail}
+use Rattle.tables.specs.Calls.{changed}
+use Rattle.tables.proofs.coils.set_coil.Statement.{statement}
+use Rattle.tables.proofs.coils.set_coil.Tie as tie
+
+size-of-requires : tie.Need-size-of-requires
+size-of-requires c κs = search needs
+
+same-length : tie.Need-same-length
+same-length c = search needs
+
+returns : tie.Need-returns
+unfolding changed
+returns c = sym (ap (toldWith _) (fail _ _ _ (λ h. omega arith)))
+
+slice-read-with-bit : tie.Need-slice-read-with-bit
+slice-read-with-bit c = omega arith
+
+cast-with-bit : tie.Need-cast-with-bit
+cast-with-bit c = search needs
+
+with-bit-requires : tie.Need-with-bit-requires
+with-bit-requires c κs = search needs
+
+slice-write-table : tie.Need-slice-write-table
+slice-write-table c = omega arith
+
+same-length-2 : tie.Need-same-length-2
+same-length-2 c = search needs
+
+returns-2 : tie.Need-returns-2
+unfolding changed putCoil
+returns-2 c =
+    let a = c .before .before .before .before .before .before .args in
+    ap (λ (b : ℕ). ((0, 0), set (a .table .now) (a .reg / 8) b)) (c .with-bit .ensures)
+    ∙ sym (ap (toldWith (a .table .now)) (pass _ _ _ (omega arith)))
+
+pub set-coil-spec : {M : Type 1} → statement M
+set-coil-spec =
+    tie.close
+    (tie.spec
+    size-of-requires
+    same-length
+    returns
+    slice-read-with-bit
+    cast-with-bit
+    with-bit-requires
+    slice-write-table
+    same-length-2
+    returns-2)
