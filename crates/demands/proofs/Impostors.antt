@@ -1,0 +1,102 @@
+-- No impostor of document 01 meets the customer's third demand, and none that takes one of its wrong turns. Most are told from the driver by
+-- one frame, since a driver that meets the demand is the driver.
+-- Assumes nothing.
+use mathlib.Core.Logic.{_≢_}
+use mathlib.Core.Path.{_≡_, ap, sym, _∙_}
+use mathlib.Core.List.{List, [], _∷_}
+use Prim.Native.Nat.{ℕ, _-_, _%_, _≤_, _<_}
+use native.Mathlib.Omega.{arith}
+use lib.ListN.{length, take, drop, getD}
+use Rattle.modbus.specs.Bytes.{Bytes, pack}
+use Rattle.modbus.specs.Table.{bit, Tables, Tab, coils, holdings, part}
+use Rattle.modbus.specs.Storage.{values}
+use Rattle.modbus.specs.Frame.{Framed}
+use Rattle.modbus.specs.Setup.{Setup, proto, Valid, Roomy}
+use Rattle.modbus.specs.Decode.{crcBytes, unwrap}
+use Rattle.modbus.specs.Drive.{drive}
+use Rattle.modbus.specs.declared.ModbusProto.the-variants.{Rtu}
+use Rattle.modbus.proofs.StepLaws.{needed}
+use Rattle.modbus.proofs.FrameLaws.{complete}
+use Rattle.demands.specs.Demand.{Request, Serves}
+use Rattle.demands.specs.Order.{frame-check}
+use Rattle.demands.specs.Cases.{setup, start, caseD, caseF}
+use Rattle.demands.specs.Impostors.{Driver, Meets, asking, beyond, across}
+use Rattle.demands.proofs.CellLaws.{outside}
+use Rattle.demands.proofs.Exactly.{one-refusal}
+use Rattle.demands.proofs.CaseTable.{computing}
+use Rattle.demands.proofs.Agree.{only}
+
+abbrev fresh : Tables
+fresh = start (0x00 ∷ 0x00 ∷ [])
+
+-- an RTU frame whose last two bytes are not the CRC of all before is a frame around nothing
+unframed : (f : List ℕ) → drop (length f - 2) f ≢ crcBytes (take (length f - 2) f) → (tag body : List ℕ) → ¬ Framed Rtu tag body f
+unfolding unwrap
+unframed f n tag body h = needed _ _ _ (complete Rtu tag body f h) λ p e. needed _ _ _ e λ q _. n q
+
+module _ (D : Driver) where
+  on-tcp : Meets D → (t : Tables) (f : List ℕ) → Bytes f → D (setup 2) t f ≡ drive (setup 2) t f
+  on-tcp m t f y = only D m (setup 2) t f y (omega arith) (omega arith)
+
+  -- ---- impostors
+
+  -- refusing everything: a served request has its own answer
+  pub refusing-everything : ((s : Setup) (t : Tables) (f : List ℕ) → 2 ≤ D s t f .outcome) → ¬ Meets D
+  unfolding computing
+  refusing-everything h m =
+      let e : 2 ≤ 0 = rw (on-tcp m fresh (asking 7) (omega arith)) at (h (setup 2) fresh (asking 7)) in
+      omega arith
+
+  -- replying the same always: likewise
+  pub replying-the-same : (r : List ℕ) → ((s : Setup) (t : Tables) (f : List ℕ) → D s t f .reply ≡ r) → ¬ Meets D
+  unfolding computing
+  replying-the-same r h m = omega (arith, numbered 7 (omega arith), numbered 8 (omega arith))
+    where
+      numbered : (n : ℕ) → n < 65536 → getD r 1 0 ≡ n % 256
+      numbered n small =
+          ap (λ l. getD l 1 0)
+          (sym (h (setup 2) fresh (asking n)) ∙ ap (λ x. x .reply) (on-tcp m fresh (asking n) (omega arith)))
+
+  -- touching no table: caught by the written cells
+  pub touching-no-table : ((s : Setup) (t : Tables) (f : List ℕ) (tab : Tab) (i : ℕ) → D s t f .after tab i ≡ t tab i) → ¬ Meets D
+  unfolding computing
+  touching-no-table h m =
+      let e : _≡_ {A = ℕ} 1 0 = rw (on-tcp m fresh caseD (omega arith)) at (h (setup 2) fresh caseD coils 9) in
+      omega arith
+
+  -- ---- wrong turns
+
+  -- checking function 16's byte count but storing up to it before testing the range
+  pub storing-first : (t : Tables) (v w : ℕ) → v < 65536 → w < 65536
+      → D (setup 2) t (across v w) .after holdings 3 ≢ t holdings 3 → ¬ Meets D
+  unfolding computing
+  storing-first t v w low high h m = h (ap (λ x. x .after holdings 3) (on-tcp m t (across v w) (omega arith)))
+
+  -- copying whole coil bytes and so losing neighbours (case f from FF FF)
+  pub copying-whole-bytes : pack (part (D (setup 2) (start (0xFF ∷ 0xFF ∷ [])) caseF .after coils) 0 16) ≡ 0x68 ∷ 0x0E ∷ [] → ¬ Meets D
+  unfolding computing
+  copying-whole-bytes h m =
+      let e : _≡_ {A = ℕ} 0x6F 0x68 = ap (λ l. getD l 0 0) (rw (on-tcp m (start (0xFF ∷ 0xFF ∷ [])) caseF (omega arith)) at h) in
+      omega arith
+
+  -- the same from any tables: a coil outside 3 to 12
+  pub losing-a-neighbour : (t : Tables) (i : ℕ) → ¬ ((3 ≤ i) × (i < 13)) → D (setup 2) t caseF .after coils i ≢ t coils i → ¬ Meets D
+  unfolding computing
+  losing-a-neighbour t i out h m =
+      let ten = outside (record { tab = coils; first = 3; count = 10 }) (values bit 10 (0xCD ∷ 0x01 ∷ [])) t coils i (λ w. out (w .1)) in
+      h (ap (λ x. x .after coils i) (on-tcp m t caseF (omega arith)) ∙ ten)
+
+  -- testing start + count in 16 bits, where 65,535 + 1 wraps
+  pub wrapping-the-sum : (t : Tables) → D (setup 2) t beyond .outcome < 2 → ¬ Meets D
+  unfolding computing
+  wrapping-the-sum t h m =
+      let e : 2 < 2 = rw (on-tcp m t beyond (omega arith)) at h in
+      omega arith
+
+  -- answering a frame with a bad CRC because its function is unknown, or whatever its function
+  pub answering-unchecked : (s : Setup) (t : Tables) (f : List ℕ) → Bytes f → Valid s → Roomy s → proto s ≡ Rtu
+      → 4 ≤ length f → length f ≤ 256 → drop (length f - 2) f ≢ crcBytes (take (length f - 2) f) → D s t f .reply ≢ [] → ¬ Meets D
+  answering-unchecked s t f y v r e low high n h m =
+      let bad : (tag body : List ℕ) → ¬ Framed (proto s) tag body f = rw e (unframed f n) in
+      let none : ¬ ((q : Request) × Serves s f q) = λ (q, w). bad _ _ (w .encoded .2) in
+      h (one-refusal s f y (m s t f y v r .refused none) (frame-check v r (rw e (low, high)) bad) .2)

@@ -1,0 +1,192 @@
+-- The driver goes through exactly with what is to be served, and stops exactly with the refusals of document 01's order.
+-- Assumes nothing.
+use mathlib.Core.Logic.{_⊎_, inl, inr, by-cases}
+use mathlib.Core.Path.{_≡_, refl, ap, _∙_, subst}
+use mathlib.Core.List.{List, [], _∷_}
+use Prim.Native.Nat.{ℕ, _≤_}
+use native.Mathlib.Omega.{arith}
+use lib.ListN.{drop}
+use Rattle.modbus.specs.Step.{Step, stop, go, _>>=_, _>>_, need, _≤?_, _and?_, _or?_, not?}
+use Rattle.modbus.specs.Bytes.{Bytes}
+use Rattle.modbus.specs.Table.{Tables}
+use Rattle.modbus.specs.Request.{Fn, code, functions, Ask, fnOf, exception}
+use Rattle.modbus.specs.Frame.{Framed}
+use Rattle.modbus.specs.Setup.{Setup, proto, Valid, Roomy}
+use Rattle.modbus.specs.Unit.{Broadcast, broadcast?, Ours, ours?}
+use Rattle.modbus.specs.Decode.{Message, unitOf, numberOf, Silent, readIgnored, foreign, frameBroken, frameCheck, wrongLength, badFunction, noRoom, badSetup, number, unwrap, IsRead, isRead?, lengthy?, valued?, asked}
+use Rattle.modbus.specs.Drive.{Fault, quiet, coded, find, fromFunction, fromUnit, judge, Result, silently, replying, settle, drive}
+use Rattle.modbus.proofs.StepLaws.{pass, fail, follow, halt, bound, needed, bound-stop, needed-stop, pick-yes, pick-no, either}
+use Rattle.modbus.proofs.RequestLaws.{asked-says, says-heard, fn-asked}
+use Rattle.modbus.proofs.FrameLaws.{sound, complete}
+use Rattle.modbus.proofs.DriveLaws.{quietly-go, quietly-stop, went-quietly, stopped-quietly, code-low, find-fn, found-fn, find-none, found-none, found-fault}
+use Rattle.demands.specs.Demand.{Request, Addressed, Serves}
+use Rattle.demands.specs.Order.{Sent, Known, Coded, told, ignored, Refusal, bad-setup, no-room, frame-broken, frame-check, foreign as foreign-unit, bad-function, no-function, read-ignored, wrong-length, bad-value, bad-address}
+use Rattle.demands.proofs.ShapeLaws.{broken, unchecked, faults}
+
+module _ (s : Setup) (f : List ℕ) where
+  judge-sent : (m : Message) → Sent s f m → judge s f ≡ fromUnit s m
+  unfolding judge
+  judge-sent m h =
+      pass _ _ _ (h .valid) ∙ pass _ _ _ (h .roomy) ∙ follow _ _ (quietly-go _ (complete _ _ _ f (h .framed)))
+
+  judge-known : (m : Message) (fn : Fn) → Known s f m fn → judge s f ≡ fromFunction s m fn
+  judge-known m fn h =
+      let low : numberOf m ≤ 127 = rw (h .called) (code-low fn) in
+      judge-sent m (h .sent)
+      ∙ pass _ _ _ (h .reached)
+      ∙ pass _ _ _ low
+      ∙ follow _ _ (find-fn _ _ fn (h .called))
+      ∙ pass _ _ _ (h .heeded)
+
+-- ---- what is served
+
+abbrev pub requested : Message → Ask → Request
+requested m a = record { tag = m .tag; unit = unitOf m; ask = a }
+
+addressed : (s : Setup) (m : Message) (fn : Fn) (a : Ask) → fnOf a ≡ fn → Dec (Broadcast s (unitOf m))
+    → Broadcast s (unitOf m) ⊎ Ours s (unitOf m) → ¬ (Broadcast s (unitOf m) × IsRead fn) → Addressed s (requested m a)
+addressed s m fn a e (yes b) r h = inl (b, λ i. h (b, subst IsRead e i))
+addressed s m fn a e (no n) (inl b) h = absurd (n b)
+addressed s m fn a e (no n) (inr o) h = inr (o, n)
+
+reached : (s : Setup) (r : Request) → Addressed s r → Broadcast s (r .unit) ⊎ Ours s (r .unit)
+reached s r (inl h) = inl (h .0)
+reached s r (inr h) = inr (h .0)
+
+heeded : (s : Setup) (r : Request) → Addressed s r → ¬ (Broadcast s (r .unit) × IsRead (fnOf (r .ask)))
+heeded s r (inl h) x = h .1 (x .1)
+heeded s r (inr h) x = h .1 (x .0)
+
+module _ (s : Setup) (f : List ℕ) (y : Bytes f) where
+  pub judge-serves : (m : Message) (a : Ask) → judge s f ≡ go (m, a) → Serves s f (requested m a)
+  unfolding judge
+  judge-serves m a e =
+      needed _ _ _ e λ valid e₁.
+      needed _ _ _ e₁ λ roomy e₂.
+      bound _ _ e₂ λ n unwrapped e₃.
+      needed _ _ _ e₃ λ reached e₄.
+      needed _ _ _ e₄ λ low e₅.
+      bound _ _ e₅ λ fn called e₆.
+      needed _ _ _ e₆ λ heeded e₇.
+      needed _ _ _ e₇ λ lengthy e₈.
+      needed _ _ _ e₈ λ valued e₉.
+      needed _ _ _ e₉ λ inside e₁₀.
+      let framed = sound _ f n y (went-quietly _ unwrapped) in
+      let says = asked-says fn (n .body) (framed .bytes) (found-fn _ _ _ fn called) lengthy valued in
+      let z : _≡_ {A = Message × Ask} (n, asked fn (n .body)) (m, a) = cc in
+      subst (λ w. Serves s f (requested (w .0) (w .1))) z
+      (record {
+        permitted = says .permitted;
+        encoded = (drop 1 (n .body), says .encodes, subst (λ b. Framed (proto s) (n .tag) b f) (says .headed) framed);
+        inside = inside;
+        addressed = addressed s n fn (asked fn (n .body)) (fn-asked fn (n .body)) (broadcast? s (unitOf n)) reached heeded;
+      })
+
+module _ (s : Setup) (f : List ℕ) where
+  abbrev pub message : (r : Request) → Serves s f r → Message
+  message r h = record { tag = r .tag; body = r .unit ∷ h .encoded .0 }
+
+  pub serves-judge : Valid s → Roomy s → (r : Request) (h : Serves s f r) → judge s f ≡ go (message r h, r .ask)
+  serves-judge valid roomy r h =
+      let heard = says-heard (r .ask) (r .unit) (h .encoded .0) (h .permitted) (h .encoded .1) in
+      judge-known s f (message r h) (fnOf (r .ask))
+      (record {
+        sent = record { valid = valid; roomy = roomy; framed = h .encoded .2 };
+        reached = reached s r (h .addressed);
+        called = heard .number;
+        heeded = heeded s r (h .addressed);
+      })
+      ∙ pass _ _ _ (heard .lengthy)
+      ∙ pass _ _ _ (heard .valued)
+      ∙ pass _ _ _ (rw (heard .asks) (h .inside))
+      ∙ rw (heard .asks)
+
+-- ---- what is refused
+
+-- the driver's outcome, code and reply
+abbrev pub Given : Setup → Tables → List ℕ → ℕ → ℕ → List ℕ → Type 0
+Given s t f o c r = (drive s t f .outcome ≡ o) × (drive s t f .exceptionCode ≡ c) × (drive s t f .reply ≡ r)
+
+module _ (s : Setup) (t : Tables) (f : List ℕ) where
+  quiet-given : (o : Silent) → judge s f ≡ stop (quiet o) → Given s t f (number o) 0 []
+  unfolding drive settle
+  quiet-given o e = rw e (refl, refl, refl)
+
+  coded-given : {m : Message} {o c : ℕ} {r : List ℕ} → Coded s m o c r → judge s f ≡ stop (coded m c) → Given s t f o c r
+  unfolding drive settle
+  coded-given {m} (told c n) e =
+      let w : drive s t f ≡ replying s m 2 c (exception (numberOf m) c) t = ap (settle s t) e ∙ pick-no _ _ _ n in
+      rw w (refl, refl, refl)
+  coded-given {m} (ignored c b) e =
+      let w : drive s t f ≡ silently 3 c t = ap (settle s t) e ∙ pick-yes _ _ _ b in
+      rw w (refl, refl, refl)
+
+  pub refusal-given : Bytes f → {o c : ℕ} {r : List ℕ} → Refusal s f o c r → Given s t f o c r
+  unfolding judge
+  refusal-given y (bad-setup n) = quiet-given badSetup (fail _ _ _ n)
+  refusal-given y (no-room v n) = quiet-given noRoom (pass _ _ _ v ∙ fail _ _ _ n)
+  refusal-given y (frame-broken v r n) =
+      quiet-given frameBroken (pass _ _ _ v ∙ pass _ _ _ r ∙ halt _ _ (quietly-stop _ (broken (proto s) f .1 n)))
+  refusal-given y (frame-check v r h n) =
+      quiet-given frameCheck (pass _ _ _ v ∙ pass _ _ _ r ∙ halt _ _ (quietly-stop _ (unchecked (proto s) f y .1 (h, n))))
+  refusal-given y (foreign-unit m h n k) =
+      quiet-given foreign (judge-sent s f m h ∙ fail _ _ _ (λ r. elim r [ inl b ↦ n b | inr o ↦ k o ]))
+  refusal-given y (bad-function m h r k) =
+      quiet-given badFunction (judge-sent s f m h ∙ pass _ _ _ r ∙ fail _ _ _ (λ (l : numberOf m ≤ 127). omega arith))
+  refusal-given y (no-function m h r l n c) =
+      coded-given c (judge-sent s f m h ∙ pass _ _ _ r ∙ pass _ _ _ l ∙ halt _ _ (find-none _ _ n functions))
+  refusal-given y (read-ignored m fn h b e i) =
+      let low : numberOf m ≤ 127 = rw e (code-low fn) in
+      quiet-given readIgnored
+      (judge-sent s f m h ∙ pass _ _ _ (inl b) ∙ pass _ _ _ low ∙ follow _ _ (find-fn _ _ fn e) ∙ fail _ _ _ (λ n. n (b, i)))
+  refusal-given y (wrong-length m fn h n) = quiet-given wrongLength (judge-known s f m fn h ∙ fail _ _ _ n)
+  refusal-given y (bad-value m fn h l n c) = coded-given c (judge-known s f m fn h ∙ pass _ _ _ l ∙ fail _ _ _ n)
+  refusal-given y (bad-address m fn h l v n c) = coded-given c (judge-known s f m fn h ∙ pass _ _ _ l ∙ pass _ _ _ v ∙ fail _ _ _ n)
+
+  -- the refusal that a fault is settled as
+  abbrev Refused : Fault → Type 0
+  Refused x = Refusal s f (settle s t (stop x) .outcome) (settle s t (stop x) .exceptionCode) (settle s t (stop x) .reply)
+
+  coded-refused : (m : Message) (c : ℕ) → ((o : ℕ) (r : List ℕ) → Coded s m o c r → Refusal s f o c r) → Refused (coded m c)
+  unfolding settle
+  coded-refused m c k =
+      either (λ (r : Result). Refusal s f (r .outcome) (r .exceptionCode) (r .reply)) _ _ _
+      (λ b. k _ _ (ignored c b))
+      (λ n. k _ _ (told c n))
+
+  frame-refused : Bytes f → Valid s → Roomy s → (o : Silent) → unwrap (proto s) f ≡ stop o → Refused (quiet o)
+  unfolding settle
+  frame-refused y v r o e = by (faults (proto s) f o e)
+    where
+      by : (o ≡ frameBroken) ⊎ (o ≡ frameCheck) → Refused (quiet o)
+      by (inl q) = rw q (frame-broken v r (broken (proto s) f .0 (rw q at e)))
+      by (inr q) = let (h, n) = unchecked (proto s) f y .0 (rw q at e) in rw q (frame-check v r h n)
+
+  function-refused : (m : Message) → Sent s f m → Broadcast s (unitOf m) ⊎ Ours s (unitOf m) → numberOf m ≤ 127 → {x : Fault}
+      → find (coded m 1) (numberOf m) functions ≡ stop x → Refused x
+  function-refused m h r l e =
+      subst Refused (found-fault _ _ functions e) (coded-refused m 1 λ _ _ c. no-function m h r l (found-none _ _ e) c)
+
+  read-refused : (m : Message) (fn : Fn) → Sent s f m → numberOf m ≡ code fn → ¬ (¬ (Broadcast s (unitOf m) × IsRead fn))
+      → Refused (quiet readIgnored)
+  unfolding settle
+  read-refused m fn h e n =
+      by-cases (broadcast? s (unitOf m) and? isRead? fn) (λ (b, i). read-ignored m fn h b e i) (λ k. absurd (n k))
+
+  pub judge-refused : Bytes f → (x : Fault) → judge s f ≡ stop x → Refused x
+  unfolding judge settle
+  judge-refused y x e =
+      needed-stop _ _ _ e (λ n q. subst Refused q (bad-setup n)) λ valid e₁.
+      needed-stop _ _ _ e₁ (λ n q. subst Refused q (no-room valid n)) λ roomy e₂.
+      bound-stop _ _ e₂ (λ q. stopped-quietly _ q λ o p z. subst Refused z (frame-refused y valid roomy o p)) λ m unwrapped e₃.
+      let sent : Sent s f m = record { valid = valid; roomy = roomy; framed = sound _ f m y (went-quietly _ unwrapped) } in
+      needed-stop _ _ _ e₃ (λ n q. subst Refused q (foreign-unit m sent (λ b. n (inl b)) (λ o. n (inr o)))) λ reached e₄.
+      needed-stop _ _ _ e₄ (λ n q. subst Refused q (bad-function m sent reached (omega (arith, n)))) λ low e₅.
+      bound-stop _ _ e₅ (λ q. function-refused m sent reached low q) λ fn found e₆.
+      let called = found-fn _ _ _ fn found in
+      needed-stop _ _ _ e₆ (λ n q. subst Refused q (read-refused m fn sent called n)) λ heeded e₇.
+      let known : Known s f m fn = record { sent = sent; reached = reached; called = called; heeded = heeded } in
+      needed-stop _ _ _ e₇ (λ n q. subst Refused q (wrong-length m fn known n)) λ lengthy e₈.
+      needed-stop _ _ _ e₈ (λ n q. subst Refused q (coded-refused m 3 λ _ _ c. bad-value m fn known lengthy n c)) λ valued e₉.
+      needed-stop _ _ _ e₉ (λ n q. subst Refused q (coded-refused m 2 λ _ _ c. bad-address m fn known lengthy valued n c)) λ inside e₁₀.
+      let z : _≡_ {A = ℕ} 0 1 = cc in absurd (omega arith)

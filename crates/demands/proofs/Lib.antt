@@ -1,0 +1,9 @@
+pub mod ShapeLaws
+pub mod CellLaws
+pub mod Judge
+pub mod Third
+pub mod Exactly
+pub mod Replies
+pub mod CaseTable
+pub mod Agree
+pub mod Impostors

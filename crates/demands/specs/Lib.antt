@@ -1,0 +1,5 @@
+pub mod Demand
+pub mod Order
+pub mod Cases
+pub mod Bounds
+pub mod Impostors
