@@ -23,7 +23,7 @@ use Rattle.demands.specs.Cases.{setup, start, caseD, caseF}
 use Rattle.demands.specs.Impostors.{Driver, Meets, asking, beyond, across}
 use Rattle.demands.proofs.CellLaws.{outside}
 use Rattle.demands.proofs.Exactly.{one-refusal}
-use Rattle.demands.proofs.CaseTable.{computing}
+use Rattle.modbus.proofs.Bounds.{computing}
 use Rattle.demands.proofs.Agree.{only}
 
 abbrev fresh : Tables

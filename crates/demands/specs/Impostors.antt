@@ -9,7 +9,7 @@ use Rattle.modbus.specs.Setup.{Setup, Valid, Roomy}
 use Rattle.modbus.specs.Drive.{Result}
 use Rattle.modbus.specs.declared.ModbusProto.the-variants.{TcpUdp}
 use Rattle.demands.specs.Demand.{Demand3}
-use Rattle.demands.specs.Bounds.{six}
+use Rattle.modbus.specs.Bounds.{six}
 
 abbrev pub Driver : Type 0
 Driver = Setup → Tables → List ℕ → Result

@@ -1,5 +1,4 @@
 pub mod Demand
 pub mod Order
 pub mod Cases
-pub mod Bounds
 pub mod Impostors

@@ -14,3 +14,4 @@ pub mod AnswerLaws
 pub mod FrameLaws
 pub mod DriveLaws
 pub mod Cases
+pub mod Bounds

@@ -12,3 +12,4 @@ pub mod Unit
 pub mod Decode
 pub mod Drive
 pub mod Cases
+pub mod Bounds

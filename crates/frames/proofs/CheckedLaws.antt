@@ -1,0 +1,55 @@
+-- The bytes of a line by their last: it is the LRC of those before, or it is not.
+-- Assumes nothing.
+use mathlib.Core.Path.{_≡_, sym, ap, _∙_}
+use mathlib.Core.List.{List, [], _∷_}
+use Prim.Native.Nat.{ℕ, suc, _-_, _<_, _≤_}
+use native.Mathlib.Omega.{arith}
+use lib.ListN.{length, take, drop, getD, drop-of-length-le}
+use lib.Seq.{drop-cons, take-take, getD-take, length-take-le}
+use Rattle.modbus.specs.Step.{stop, go}
+use Rattle.modbus.specs.Paper.{told, bytePaper}
+use Rattle.modbus.specs.Check.{lrc}
+use Rattle.modbus.specs.Decode.{frameCheck}
+use Rattle.modbus.specs.declared.ErrorKind.{ErrorKind}
+use Rattle.modbus.specs.declared.ByteAnswer.{ByteAnswer}
+use Rattle.modbus.specs.declared.ByteAnswer.the-variants as byte
+use Rattle.modbus.proofs.StepLaws.{pass, fail}
+use Rattle.modbus.proofs.PaperLaws.{byte-value, byte-refusal}
+use Rattle.checks.specs.Within.{lrcWithin}
+use Rattle.frames.specs.Checked.{checked}
+
+-- the first n bytes of a buffer
+module _ (s : List ℕ) (n : ℕ) (low : 1 ≤ n) (high : n ≤ length s) where
+  long : length (take n s) ≡ n
+  long = length-take-le n s high
+
+  last : drop (length (take n s) - 1) (take n s) ≡ getD s (n - 1) 0 ∷ []
+  last =
+      let k : n - 1 < length (take n s) = omega (arith, long) in
+      let e : length (take n s) - 1 ≡ n - 1 = omega (arith, long) in
+      let j : length (take n s) ≤ suc (n - 1) = omega (arith, long) in
+      rw (e, drop-cons (take n s) (n - 1) 0, drop-of-length-le (take n s) j, getD-take n s (n - 1) 0 (omega arith))
+
+  before : take (length (take n s) - 1) (take n s) ≡ take (n - 1) s
+  before =
+      let e : length (take n s) - 1 ≡ n - 1 = omega (arith, long) in
+      rw (e, take-take (n - 1) n s (omega arith))
+
+  pub checked-wrong : ¬ (getD s (n - 1) 0 ≡ lrc (take (n - 1) s)) → checked (take n s) ≡ stop frameCheck
+  checked-wrong h = fail _ _ _ (λ q. h (let p = sym last ∙ q ∙ ap (λ (t : List ℕ). lrc t ∷ []) before in cc))
+
+  pub checked-right : getD s (n - 1) 0 ≡ lrc (take (n - 1) s) → checked (take n s) ≡ go (record { tag = []; body = take (n - 1) s })
+  checked-right e =
+      pass _ _ _ (last ∙ ap (λ (b : ℕ). b ∷ []) e ∙ ap (λ (t : List ℕ). lrc t ∷ []) (sym before))
+      ∙ ap (λ (t : List ℕ). go (record { tag = []; body = t })) before
+
+-- what was answered for the LRC of the first n bytes of a buffer that has them
+module _ (r : ByteAnswer) (s : List ℕ) (n : ℕ) (h : n ≤ length s) (e : bytePaper r ≡ told (lrcWithin s n)) where
+  pub lrc-value : (v : ℕ) → r ≡ byte.Value v → v ≡ lrc (take n s)
+  lrc-value v q = let p = sym (byte-value r (lrcWithin s n) v e q) ∙ pass _ _ _ h in cc
+
+  pub lrc-never : (k : ErrorKind) → r ≡ byte.Refused k → ⊥
+  lrc-never k q =
+      let p = sym (byte-refusal r (lrcWithin s n) k e q) ∙ pass _ _ _ h in
+      let z : _≡_ {A = ℕ} 0 1 = cc in
+      omega arith

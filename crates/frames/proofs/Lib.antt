@@ -1,0 +1,5 @@
+pub mod TextLaws
+pub mod CheckedLaws
+pub mod OpenedLaws
+pub mod LaidLaws
+pub mod Unique

@@ -1,0 +1,200 @@
+// Frames taken apart and put together: from a frame to the body that it holds, and from a body to the frame around it.
+use ascii::generate_ascii_frame;
+use ascii::parse_ascii_frame;
+use checks::calc_crc16;
+use checks::calc_lrc;
+use modbus::ByteAnswer;
+use modbus::SizeAnswer;
+use octets::word;
+ghost use mathlib.Core.Path.{_≡_};
+ghost use mathlib.Core.Bool.{true, false};
+ghost use mathlib.Core.List.{[], _∷_};
+ghost use Prim.Native.Nat.{_+_, _*_, _≤_};
+ghost use lib.ListN.{length, take};
+ghost use lib.Seq.{sets};
+ghost use Rattle.modbus.specs.Step.{choose};
+ghost use Rattle.modbus.specs.Frame.{line, wrap};
+ghost use Rattle.modbus.specs.Decode.{unwrap};
+ghost use Rattle.modbus.specs.declared.ModbusProto.the-variants.{Rtu, Ascii, TcpUdp};
+ghost use Rattle.frames.specs.Opened.{opened, lined?, openedText, laid};
+ghost use Rattle.frames.specs.Checked.{checked};
+
+// What a frame holds: a body of so many bytes, or why none.
+pub enum Opened {
+    Body(usize),
+    Broken,
+    Check,
+}
+
+// An RTU frame: its body is its front.
+pub fn open_rtu(frame: &[u8]) -> Opened
+    ensures { λ r. ⌜ r ≡ opened (unwrap Rtu (now (frame .entry))) ⌝ }
+{
+    if frame.len() < 4 {
+        return Opened::Broken;
+    }
+    if 256 < frame.len() {
+        return Opened::Broken;
+    }
+    let n = frame.len() - 2;
+    let crc = calc_crc16(frame, n as u8);
+    if frame[n] as u16 != crc % 256 {
+        return Opened::Check;
+    }
+    if frame[n + 1] as u16 != crc / 256 {
+        return Opened::Check;
+    }
+    Opened::Body(n)
+}
+
+// A TCP frame: its body stands from byte 6 on.
+pub fn open_tcp(frame: &[u8]) -> Opened
+    ensures { λ r. ⌜ r ≡ opened (unwrap TcpUdp (now (frame .entry))) ⌝ }
+{
+    if frame.len() < 12 {
+        return Opened::Broken;
+    }
+    if 256 < frame.len() {
+        return Opened::Broken;
+    }
+    if frame[2] != 0 {
+        return Opened::Broken;
+    }
+    if frame[3] != 0 {
+        return Opened::Broken;
+    }
+    let n = word(frame, 4) as usize;
+    if n + 6 != frame.len() {
+        return Opened::Broken;
+    }
+    Opened::Body(n)
+}
+
+// Whether a frame is no line of text within the bounds.
+fn unlined(frame: &[u8]) -> bool
+    ensures { λ r. ⌜ r ≡ choose (lined? (now (frame .entry))) false true ⌝ }
+{
+    if frame.len() < 9 {
+        return true;
+    }
+    if 511 < frame.len() {
+        return true;
+    }
+    if frame[0] != 58 {
+        return true;
+    }
+    let n = frame.len() - 2;
+    if frame[n] != 13 {
+        return true;
+    }
+    if frame[n + 1] != 10 {
+        return true;
+    }
+    false
+}
+
+// The first n bytes of `raw` are a body and then its LRC, if the last is that.
+fn check_lrc(raw: &[u8], n: u8) -> Opened
+    requires { ⌜ (1 ≤ n) × (n ≤ length (now raw)) ⌝ }
+    ensures { λ r. ⌜ r ≡ opened (checked (take n (now (raw .entry)))) ⌝ }
+{
+    let k = n - 1;
+    match calc_lrc(raw, k) {
+        ByteAnswer::Refused(_) => Opened::Broken,
+        ByteAnswer::Value(lrc) => {
+            if raw[k as usize] != lrc {
+                return Opened::Check;
+            }
+            Opened::Body(k as usize)
+        }
+    }
+}
+
+// An ASCII frame: its body is decoded to the front of `raw`.
+pub fn open_ascii(frame: &[u8], raw: &mut [u8; 256]) -> Opened
+    ensures { λ r. ⌜ (r, now (raw .exit)) ≡ openedText (now (frame .entry)) (now (raw .entry)) ⌝ }
+{
+    if unlined(frame) {
+        return Opened::Broken;
+    }
+    match parse_ascii_frame(frame, frame.len() - 2, raw, 0) {
+        ByteAnswer::Refused(_) => Opened::Broken,
+        ByteAnswer::Value(n) => {
+            if 2 * (n as usize) + 3 != frame.len() {
+                return Opened::Broken;
+            }
+            check_lrc(raw, n)
+        }
+    }
+}
+
+// Copies the first n bytes of `src` to the places of `dst` from `at` on.
+fn lay(dst: &mut [u8], at: usize, src: &[u8], n: usize)
+    requires { ⌜ (at + n ≤ length (now dst)) × (n ≤ length (now src)) ⌝ }
+    ensures { λ r. ⌜ now (dst .exit) ≡ sets (now (dst .entry)) at (take n (now (src .entry))) ⌝ }
+{
+    for i in 0..n {
+        dst[at + i] = src[i];
+    }
+}
+
+// Writes the first n bytes as a line to the front of the reply, which has room for it.
+fn lay_line(bytes: &[u8], n: usize, reply: &mut [u8]) -> usize
+    requires { ⌜ (n ≤ length (now bytes)) × (2 * n + 3 ≤ length (now reply)) ⌝ }
+    ensures { λ r. ⌜ (r, now (reply .exit)) ≡ laid (now (reply .entry)) (line (take n (now (bytes .entry)))) ⌝ }
+{
+    match generate_ascii_frame(&bytes[..n], reply) {
+        SizeAnswer::Refused(_) => 0,
+        SizeAnswer::Value(m) => m,
+    }
+}
+
+// The frame around the first n bytes of `body` goes to the front of the reply, if it fits; its length, or 0.
+pub fn seal_rtu(body: [u8; 256], n: u8, reply: &mut [u8]) -> usize
+    ensures { λ r. ⌜ (r, now (reply .exit)) ≡ laid (now (reply .entry)) (wrap Rtu [] (take n body)) ⌝ }
+{
+    let m = n as usize;
+    if reply.len() < m + 2 {
+        return 0;
+    }
+    let crc = calc_crc16(&body, n);
+    lay(reply, 0, &body, m);
+    reply[m] = (crc % 256) as u8;
+    reply[m + 1] = (crc / 256) as u8;
+    m + 2
+}
+
+pub fn seal_ascii(body: [u8; 256], n: u8, reply: &mut [u8]) -> usize
+    ensures { λ r. ⌜ (r, now (reply .exit)) ≡ laid (now (reply .entry)) (wrap Ascii [] (take n body)) ⌝ }
+{
+    let m = n as usize;
+    if reply.len() < 2 * m + 5 {
+        return 0;
+    }
+    match calc_lrc(&body, n) {
+        ByteAnswer::Refused(_) => 0,
+        ByteAnswer::Value(lrc) => {
+            let mut bytes = body;
+            bytes[m] = lrc;
+            lay_line(&bytes, m + 1, reply)
+        }
+    }
+}
+
+// The same with the transaction number's two bytes.
+pub fn seal_tcp(high: u8, low: u8, body: [u8; 256], n: u8, reply: &mut [u8]) -> usize
+    ensures { λ r. ⌜ (r, now (reply .exit)) ≡ laid (now (reply .entry)) (wrap TcpUdp (high ∷ low ∷ []) (take n body)) ⌝ }
+{
+    let m = n as usize;
+    if reply.len() < m + 6 {
+        return 0;
+    }
+    reply[0] = high;
+    reply[1] = low;
+    reply[2] = 0;
+    reply[3] = 0;
+    reply[4] = 0;
+    reply[5] = n;
+    lay(reply, 6, &body, m);
+    m + 6
+}
