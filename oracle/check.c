@@ -4,6 +4,7 @@
  * every fifth time it begins after one; the bytes on the free side must be as they were.
  * Status: 0 all equal and at least N calls, 1 a difference, 2 a short or malformed stream.
  * Built with -DFAULT=1 to 23 that call is answered slightly wrong, to show that a difference is seen. */
+#include "../include/dalonjang.h"
 #include "probe.h"
 #include <signal.h>
 #include <stdio.h>
@@ -124,6 +125,8 @@ static int next_record(void) {
     exit(2);
 }
 
+static struct probe_answer ported(struct dalonjang_answer a) { return (struct probe_answer){a.value, a.kind}; }
+
 static struct probe_answer ask(const uint8_t *input, uint8_t *buffer, uint8_t *table) {
     const struct record *r = &record;
     uint8_t small = (uint8_t)r->small;
@@ -132,10 +135,10 @@ static struct probe_answer ask(const uint8_t *input, uint8_t *buffer, uint8_t *t
     case 2: return probe_calc_lrc(input, r->n, small);
     case 3: return probe_chr_to_hex(small);
     case 4: return probe_hex_to_chr(small);
-    case 5: return probe_parse_ascii_frame(input, r->n, r->data_len, buffer, r->m, small);
-    case 6: return probe_generate_ascii_frame(input, r->n, buffer, r->m);
-    case 7: return probe_guess_request_frame_len(input, r->n, small);
-    case 8: return probe_guess_response_frame_len(input, r->n, small);
+    case 5: return ported(dalonjang_parse_ascii_frame(input, r->n, r->data_len, buffer, r->m, small));
+    case 6: return ported(dalonjang_generate_ascii_frame(input, r->n, buffer, r->m));
+    case 7: return ported(dalonjang_guess_request_frame_len(input, r->n, small));
+    case 8: return ported(dalonjang_guess_response_frame_len(input, r->n, small));
     case 9: return probe_push(buffer, r->m, r->len, small);
     case 10: return probe_extend(buffer, r->m, r->len, input, r->n);
     case 11: return probe_resize(buffer, r->m, r->len, r->size, small);

@@ -1,9 +1,12 @@
 pub mod ShapeLaws
 pub mod CellLaws
 pub mod Judge
+pub mod StoredLaws
 pub mod Third
 pub mod Exactly
 pub mod Replies
 pub mod CaseTable
+pub mod OnBytes
+pub mod DriverContract
 pub mod Agree
 pub mod Impostors

@@ -2,3 +2,4 @@ pub mod Demand
 pub mod Order
 pub mod Cases
 pub mod Impostors
+pub mod OnBytes

@@ -7,11 +7,16 @@ use Prim.Native.Nat.{ℕ}
 use Rattle.modbus.proofs.Unique.{Unique}
 use Rattle.octets.proofs.word.Kinds as word-kinds
 use Rattle.octets.proofs.word.Reads as word-reads
+use Rattle.octets.proofs.contains.Kinds as contains-kinds
+use Rattle.octets.proofs.contains.Reads as contains-reads
 use Rattle.octets.proofs.put_byte.Kinds as put-byte-kinds
 use Rattle.octets.proofs.put_byte.Reads as put-byte-reads
 
 pub word : Unique 1 word-kinds.ps word-kinds.r word-reads.Post
 word κs a x y u v p q = (p ∙ sym q, refl)
+
+pub contains : Unique 1 contains-kinds.ps contains-kinds.r contains-reads.Post
+contains κs a x y u v p q = (p ∙ sym q, refl)
 
 pub put-byte : Unique 1 put-byte-kinds.ps put-byte-kinds.r put-byte-reads.Post
 put-byte κs a x y u v p q =

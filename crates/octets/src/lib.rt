@@ -1,6 +1,9 @@
 // Small total functions on bytes: a byte outside the slice reads as 0, and a byte put outside it changes nothing.
+ghost use mathlib.Core.Bool.{true, false};
 ghost use mathlib.Core.Path.{_≡_};
 ghost use Rattle.modbus.specs.Bytes.{wordAt};
+ghost use Rattle.modbus.specs.Step.{choose};
+ghost use Rattle.modbus.specs.Unit.{listed?};
 ghost use Rattle.octets.specs.Put.{byteAt, putByte};
 
 fn byte(s: &[u8], at: usize) -> u8
@@ -31,6 +34,18 @@ pub fn put_byte(dst: &mut [u8], at: usize, b: u8) -> bool
     if at < dst.len() {
         dst[at] = b;
         return true;
+    }
+    false
+}
+
+// Whether the byte stands in the slice.
+pub fn contains(s: &[u8], b: u8) -> bool
+    ensures { λ r. ⌜ r ≡ choose (listed? b (now (s .entry))) true false ⌝ }
+{
+    for i in 0..s.len() {
+        if s[i] == b {
+            return true;
+        }
     }
     false
 }

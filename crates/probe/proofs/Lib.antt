@@ -1,3 +1,2 @@
-mod NumberedLaws
 pub mod Unique
 pub mod Module4Unique

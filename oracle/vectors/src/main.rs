@@ -3,6 +3,7 @@
 //!     vectors stream N SEED    at least N records of modules 1 to 3 in binary: the edges, the families, then random
 //!                              ones up to N
 //!     vectors tables N SEED    the same of module 4
+//!     vectors drive N SEED     the same of the driver: whole frames, beside the crate's chain from parse to finalize
 //!     vectors list SEED        the fixed list of modules 1 to 3 as text: the edges, then short random ones
 //!
 //! It ends with an error where the crate panics and document 01 foresees none, or the other way round, where the crate
@@ -10,6 +11,7 @@
 mod answer;
 mod bounded;
 mod chance;
+mod drive;
 mod edges;
 mod exhaustive;
 mod frames;
@@ -19,8 +21,9 @@ mod tables;
 mod window;
 
 use chance::Chance;
+use drive::record::Answer;
 use record::{Call, CALLS, FORMAT, NAMES};
-use std::collections::BTreeSet;
+use std::collections::{BTreeMap, BTreeSet};
 use std::io::{BufWriter, ErrorKind, StdoutLock, Write};
 use std::ops::Range;
 use std::process::exit;
@@ -47,8 +50,9 @@ fn main() {
     match (args.first().map(String::as_str), &numbers[..]) {
         (Some("stream"), &[n, seed]) if args.len() == 3 => stream(n as usize, seed),
         (Some("tables"), &[n, seed]) if args.len() == 3 => tables(n as usize, seed),
+        (Some("drive"), &[n, seed]) if args.len() == 3 => drive(n as usize, seed),
         (Some("list"), &[seed]) if args.len() == 2 => list(seed),
-        _ => fail("usage: vectors stream N SEED | vectors tables N SEED | vectors list SEED"),
+        _ => fail("usage: vectors stream|tables|drive N SEED | vectors list SEED"),
     }
 }
 
@@ -77,6 +81,58 @@ fn tables(n: usize, seed: u64) {
         }
     }
     out.finish(MODULE_4);
+}
+
+/// Says at the end how often the crate differed in each way, with the shortest frame met, and how often it panicked.
+fn drive(n: usize, seed: u64) {
+    let mut out = Writer::new(false);
+    let mut total = 0;
+    let mut ways: BTreeMap<&str, (usize, Vec<u8>, String)> = BTreeMap::new();
+    let mut panics: BTreeMap<&str, usize> = BTreeMap::new();
+    let mut put = |call: drive::record::Call| {
+        let (answer, panicked) = drive::answer::answer(&call).unwrap_or_else(|why| fail(&format!("{why}: {call}")));
+        out.bytes(&call.record(&answer));
+        if let Some((way, left)) = &answer.difference {
+            let (count, shortest, said) = ways.entry(way).or_default();
+            *count += 1;
+            if *count == 1 || (call.frame.len(), &call.frame) < (shortest.len(), shortest) {
+                let cells = if left.coils == answer.left.coils && left.holdings == answer.left.holdings {
+                    ""
+                } else {
+                    "; stored"
+                };
+                let Answer { outcome, code, .. } = answer;
+                *said = format!("reply {}{cells} | outcome {outcome}, code {code}", hex(&left.reply));
+                *shortest = call.frame;
+            }
+        }
+        if let Some(stage) = panicked {
+            *panics.entry(stage).or_default() += 1;
+        }
+        total += 1;
+        total
+    };
+    drive::edges::edges(seed, &mut |call| {
+        put(call);
+    });
+    let mut chance = Chance(seed);
+    while put(drive::random::random(&mut chance)) < n {}
+    out.out.flush().unwrap_or_else(unwritten);
+    for way in drive::answer::WAYS {
+        let Some((count, shortest, said)) = ways.get(way) else {
+            fail(&format!("the crate never differed by this: {way}"))
+        };
+        eprintln!("{count:8} {way} | {} | {said}", hex(shortest));
+    }
+    for stage in drive::answer::PANICS {
+        let Some(count) = panics.get(stage) else { fail(&format!("the crate never panicked in {stage}")) };
+        eprintln!("{count:8} panics in {stage}");
+    }
+    eprintln!("the crate differs in {} known ways and panics in {} places", ways.len(), panics.len());
+}
+
+fn hex(bytes: &[u8]) -> String {
+    bytes.iter().map(|b| format!("{b:02X}")).collect()
 }
 
 fn list(seed: u64) {
@@ -138,8 +194,7 @@ impl Writer {
         self.count[which] += 1;
         self.seen[which][usize::from(kind)] = true;
         if self.as_text {
-            let digits: String = record.iter().map(|b| format!("{b:02X}")).collect();
-            self.text(&(digits + "\n"));
+            self.text(&(hex(record) + "\n"));
         } else {
             self.bytes(record);
         }

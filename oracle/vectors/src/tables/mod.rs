@@ -4,4 +4,4 @@ pub mod edges;
 pub mod exhaustive;
 pub mod random;
 pub mod record;
-mod storage;
+pub mod storage;

@@ -54,13 +54,13 @@ fn ask_of<const N: usize>(call: &Call, table: &mut [u8], response: &mut [u8]) ->
     got
 }
 
-fn take_bits(cells: &mut [bool], table: &[u8]) {
+pub fn take_bits(cells: &mut [bool], table: &[u8]) {
     for (n, cell) in cells.iter_mut().enumerate() {
         *cell = table[n / 8] >> (n % 8) & 1 == 1;
     }
 }
 
-fn give_bits(cells: &[bool], table: &mut [u8]) {
+pub fn give_bits(cells: &[bool], table: &mut [u8]) {
     for (n, cell) in cells.iter().enumerate() {
         let bit = 1 << (n % 8);
         if *cell {
@@ -71,13 +71,13 @@ fn give_bits(cells: &[bool], table: &mut [u8]) {
     }
 }
 
-fn take_registers(cells: &mut [u16], table: &[u8]) {
+pub fn take_registers(cells: &mut [u16], table: &[u8]) {
     for (cell, bytes) in cells.iter_mut().zip(table.chunks_exact(2)) {
         *cell = u16::from_be_bytes([bytes[0], bytes[1]]);
     }
 }
 
-fn give_registers(cells: &[u16], table: &mut [u8]) {
+pub fn give_registers(cells: &[u16], table: &mut [u8]) {
     for (cell, bytes) in cells.iter().zip(table.chunks_exact_mut(2)) {
         bytes.copy_from_slice(&cell.to_be_bytes());
     }

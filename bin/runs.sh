@@ -1,0 +1,85 @@
+# For bin/beside and bin/driver-runs, which source it: what the runs beside the Rust need, from packages to the oracle.
+# shellcheck shell=bash
+source=../shared/docs/src/src # the crate's source stands beside the repository, never in it
+vectors=out/oracle/target/oracle/vectors
+seed=${SEED:-1}
+PATH=$PATH:${HOME:-/root}/.cargo/bin
+
+fail() {
+    echo "$(basename "$0"): $1" >&2
+    exit 1
+}
+
+# logged NAME COMMAND..: quiet, unless it fails
+logged() {
+    local log=out/$1.log
+    shift
+    "$@" >"$log" 2>&1 || { cat "$log" >&2; fail "failed: $*"; }
+}
+
+# packages [rust]: a C compiler's headers, and Rust where it is said
+packages() {
+    local c='' rust=''
+    { [ -e /usr/include/stdio.h ] && command -v gcc >/dev/null; } || c='gcc libc6-dev'
+    [ "${1:-}" != rust ] || command -v cargo >/dev/null || rust='cargo rustc'
+    [ -z "$c$rust" ] && return
+    { [ "$(id -u)" = 0 ] && command -v apt-get >/dev/null; } || fail "these packages are missing: $c $rust"
+    logged packages apt-get update
+    # the crate wants Rust 1.81; in Debian 12 only the packages -web are new enough
+    if [ -n "$rust" ] && apt-cache show cargo-web >/dev/null 2>&1; then rust='cargo-web rustc-web'; fi
+    # shellcheck disable=SC2086
+    logged packages env DEBIAN_FRONTEND=noninteractive apt-get install -y --no-install-recommends $c $rust
+}
+
+# put FROM TO: copied only where it differs, so that cargo builds again exactly what changed
+put() {
+    cmp -s "$1" "$2" || install -D -m 644 "$1" "$2"
+}
+
+# The workspace and the published sources, put together in out/oracle.
+build_vectors() {
+    local file crate=out/oracle/rmodbus
+    (cd "$source" && sha256sum --check --quiet --strict "$OLDPWD/oracle/SHA256SUMS") ||
+        fail 'the Rust source is not the published one'
+    while read -r _ file; do put "$source/$file" "$crate/src/$file"; done <oracle/SHA256SUMS
+    find oracle -name '*.toml' -o -name '*.rs' | while read -r file; do put "$file" "out/$file"; done
+    put oracle/rmodbus/tests.rs $crate/src/tests.rs
+    for file in README.md CHANGELOG.md; do put /dev/null $crate/$file; done # lib.rs includes them
+    logged cargo cargo build --offline --profile oracle \
+        --manifest-path out/oracle/Cargo.toml --target-dir out/oracle/target
+}
+
+# library CRATE..: $LIB, or those newly made
+library() {
+    local crate
+    if [ -z "${LIB:-}" ]; then
+        for crate in "$@"; do
+            logged staticlib rt staticlib "$crate"
+            LIB="${LIB:-} target/staticlib/lib$crate.a"
+        done
+    fi
+}
+
+# compare CHECK COMMAND N: the statuses of both programs, as "vectors check"
+compare() {
+    local status
+    set +e
+    "$vectors" "$2" "$3" "$seed" 2>out/vectors.log | bin/x86run "$1" "$3" >out/check.log 2>&1
+    status=("${PIPESTATUS[@]}")
+    set -e
+    echo "${status[*]}"
+}
+
+# equal NAME CHECK COMMAND N: every call of the library gives what is expected; what check said is in out/check.log
+equal() {
+    local said
+    said=$(compare "$2" "$3" "$4")
+    if [ "$said" != '0 0' ]; then
+        cat out/vectors.log out/check.log >&2
+        fail "$1: the comparison failed (status of vectors and check: $said)"
+    fi
+}
+
+thousands() {
+    sed -E ':a; s/([0-9])([0-9]{3})($|[^0-9])/\1,\2\3/; ta'
+}

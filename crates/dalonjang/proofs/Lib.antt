@@ -1,0 +1,2 @@
+mod NumberedLaws
+pub mod Unique

@@ -1,0 +1,78 @@
+-- Each contract leaves one possible result, and one possible content of the buffer that is lent.
+-- Assumes nothing.
+use mathlib.Core.Path.{_≡_, refl, sym, ap, _∙_}
+use mathlib.Core.List.{List}
+use Prim.Native.Nat.{ℕ}
+use Rattle.modbus.proofs.Unique.{Unique, answer-paper}
+use Rattle.driver.specs.Driven.{Given}
+use Rattle.dalonjang.specs.declared.Driven.{Driven}
+use Rattle.dalonjang.proofs.dalonjang_drive.Kinds as dalonjang-drive-kinds
+use Rattle.dalonjang.proofs.dalonjang_drive.Reads as dalonjang-drive-reads
+use Rattle.dalonjang.proofs.dalonjang_parse_ascii_frame.Kinds as dalonjang-parse-ascii-frame-kinds
+use Rattle.dalonjang.proofs.dalonjang_parse_ascii_frame.Reads as dalonjang-parse-ascii-frame-reads
+use Rattle.dalonjang.proofs.dalonjang_generate_ascii_frame.Kinds as dalonjang-generate-ascii-frame-kinds
+use Rattle.dalonjang.proofs.dalonjang_generate_ascii_frame.Reads as dalonjang-generate-ascii-frame-reads
+use Rattle.dalonjang.proofs.dalonjang_guess_request_frame_len.Kinds as dalonjang-guess-request-frame-len-kinds
+use Rattle.dalonjang.proofs.dalonjang_guess_request_frame_len.Reads as dalonjang-guess-request-frame-len-reads
+use Rattle.dalonjang.proofs.dalonjang_guess_response_frame_len.Kinds as dalonjang-guess-response-frame-len-kinds
+use Rattle.dalonjang.proofs.dalonjang_guess_response_frame_len.Reads as dalonjang-guess-response-frame-len-reads
+
+pub parse-ascii-frame : Unique 2 dalonjang-parse-ascii-frame-kinds.ps dalonjang-parse-ascii-frame-kinds.r dalonjang-parse-ascii-frame-reads.Post
+parse-ascii-frame κs a x y u v p q =
+    let e = p ∙ sym q in
+    (answer-paper x y (ap (λ (t : (ℕ × ℕ) × List ℕ). t .0) e), ap (λ (t : (ℕ × ℕ) × List ℕ). (u .0, (u .1 .0, (t .1, u .1 .1 .1)))) e)
+
+pub generate-ascii-frame : Unique 2 dalonjang-generate-ascii-frame-kinds.ps dalonjang-generate-ascii-frame-kinds.r dalonjang-generate-ascii-frame-reads.Post
+generate-ascii-frame κs a x y u v p q =
+    let e = p ∙ sym q in
+    (answer-paper x y (ap (λ (t : (ℕ × ℕ) × List ℕ). t .0) e), ap (λ (t : (ℕ × ℕ) × List ℕ). (u .0, (t .1, u .1 .1))) e)
+
+pub guess-request-frame-len : Unique 1 dalonjang-guess-request-frame-len-kinds.ps dalonjang-guess-request-frame-len-kinds.r dalonjang-guess-request-frame-len-reads.Post
+guess-request-frame-len κs a x y u v p q = (answer-paper x y (p ∙ sym q), refl)
+
+pub guess-response-frame-len : Unique 1 dalonjang-guess-response-frame-len-kinds.ps dalonjang-guess-response-frame-len-kinds.r dalonjang-guess-response-frame-len-reads.Post
+guess-response-frame-len κs a x y u v p q = (answer-paper x y (p ∙ sym q), refl)
+
+-- a result by its three numbers
+abbrev result : ℕ × ℕ × ℕ → Driven
+result n = record { length = n .2; outcome = n .0; code = n .1 }
+
+pub drive : Unique 7 dalonjang-drive-kinds.ps dalonjang-drive-kinds.r dalonjang-drive-reads.Post
+drive κs a x y u v p q =
+    let e = p ∙ sym q in (
+      ap (λ (g : Given). result (g .numbers)) e,
+      ap (λ (g : Given). (
+        u .0,
+        (
+          u .1 .0,
+          (
+            u .1 .1 .0,
+            (
+              g .coilBytes,
+              (
+                u .1 .1 .1 .1 .0,
+                (
+                  u .1 .1 .1 .1 .1 .0,
+                  (
+                    u .1 .1 .1 .1 .1 .1 .0,
+                    (
+                      g .holdingBytes,
+                      (
+                        u .1 .1 .1 .1 .1 .1 .1 .1 .0,
+                        (
+                          u .1 .1 .1 .1 .1 .1 .1 .1 .1 .0,
+                          (
+                            u .1 .1 .1 .1 .1 .1 .1 .1 .1 .1 .0,
+                            (u .1 .1 .1 .1 .1 .1 .1 .1 .1 .1 .1 .0, (g .replyBytes, u .1 .1 .1 .1 .1 .1 .1 .1 .1 .1 .1 .1 .1)),
+                          ),
+                        ),
+                      ),
+                    ),
+                  ),
+                ),
+              ),
+            ),
+          ),
+        ),
+      )) e,
+    )

@@ -1,0 +1,52 @@
+-- Demand 3 of the driver's code: its contract, as the checker reads it (`Post`), gives the demand on cell values, the refusals both ways, and
+-- that spare bits and bytes are kept. The discretes and the inputs are lent to be read, so nothing of theirs stands at the exit.
+-- Assumes nothing.
+use mathlib.Core.Logic.{_↔_}
+use mathlib.Core.List.{List}
+use Prim.Native.Nat.{ℕ, _≤_}
+use lib.ListN.{take}
+use denote.Ref.{now}
+use contract.Lifetimes.{Lfts}
+use borrow.Fn.Kinds.{Dens, resT, endedOf}
+use denote.Triple.Clauses.{Lasts, atExit}
+use Rattle.modbus.specs.Bytes.{Bytes}
+use Rattle.modbus.specs.Setup.{Setup, Valid, Roomy}
+use Rattle.driver.specs.Driven.{Lent, paper, lentOf, tablesOf, setupOf, Given, given}
+use Rattle.driver.proofs.drive.Kinds as drive-kinds
+use Rattle.driver.proofs.drive.Reads as drive-reads
+use Rattle.demands.specs.Demand.{Demand3}
+use Rattle.demands.specs.Order.{Refusal}
+use Rattle.demands.specs.OnBytes.{showed, Kept}
+use Rattle.demands.proofs.OnBytes.{demand-on-bytes, refused-on-bytes, kept-on-bytes}
+
+-- a call: its arguments `a`, its result `x`, what it leaves at the exit `u`, and that these meet the contract
+module _ (κs : Lfts 7) (a : Dens κs drive-kinds.ps) (x : resT drive-kinds.r κs .Denot) (u : Lasts (endedOf 7 drive-kinds.ps drive-kinds.r) κs a)
+    (post : drive-reads.Post κs a x (atExit (endedOf 7 drive-kinds.ps drive-kinds.r) κs a u)) where
+  abbrev pub lent : Lent
+  lent =
+      lentOf (now (a .1 .1 .1 .0)) (a .1 .1 .1 .1 .0) (now (a .1 .1 .1 .1 .1 .0)) (a .1 .1 .1 .1 .1 .1 .0)
+      (now (a .1 .1 .1 .1 .1 .1 .1 .0)) (a .1 .1 .1 .1 .1 .1 .1 .1 .0) (now (a .1 .1 .1 .1 .1 .1 .1 .1 .1 .0)) (a .1 .1 .1 .1 .1 .1 .1 .1 .1 .1 .0)
+
+  abbrev pub frame : List ℕ
+  frame = now (a .1 .1 .1 .1 .1 .1 .1 .1 .1 .1 .1 .0)
+
+  abbrev pub reply : List ℕ
+  reply = now (a .1 .1 .1 .1 .1 .1 .1 .1 .1 .1 .1 .1 .0)
+
+  abbrev pub setup : Setup
+  setup = setupOf (a .0) (a .1 .0) (now (a .1 .1 .0)) lent reply
+
+  -- the outcome, and the reply buffer, the coils and the holdings at the exit
+  abbrev pub left : Given
+  left = given (paper x) (u .1 .1 .1 .1 .1 .1 .1 .1 .1 .1 .1 .1 .0) (u .1 .1 .1 .0) (u .1 .1 .1 .1 .1 .1 .1 .0)
+
+  module _ (frameBytes : Bytes frame) (holdingBytes : Bytes (lent .holdingBytes)) (inputBytes : Bytes (lent .inputBytes)) where
+    pub third : Valid setup → Roomy setup → Demand3 setup (tablesOf lent) frame (showed lent left)
+    third valid roomy = demand-on-bytes _ _ _ lent frame reply frameBytes _ post holdingBytes inputBytes valid roomy
+
+    pub refused : (2 ≤ left .numbers .0)
+        ↔ Refusal setup frame (left .numbers .0) (left .numbers .1) (take (left .numbers .2) (left .replyBytes))
+    refused = refused-on-bytes _ _ _ lent frame reply frameBytes _ post holdingBytes inputBytes
+
+    pub kept : Kept setup lent frame reply left
+    kept = kept-on-bytes _ _ _ lent frame reply frameBytes _ post holdingBytes inputBytes

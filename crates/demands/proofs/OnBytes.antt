@@ -1,0 +1,215 @@
+-- The customer's third demand holds of a call on bytes, for any numbers and bytes that the driver's contract allows; each refusal is given
+-- exactly on its condition; and every byte outside the reply and a served write is as lent. The elements of the frame and of the register
+-- tables are bytes, as those of every lent slice are; this is a hypothesis here.
+-- Assumes nothing.
+use mathlib.Core.Logic.{_↔_, by-cases}
+use mathlib.Core.Path.{_≡_, refl, ap, sym, _∙_}
+use mathlib.Core.List.{List, _++_}
+use Prim.Native.Nat.{ℕ, _*_, _/_, _≤_, _<_}
+use native.Mathlib.Omega.{arith}
+use native.Mathlib.Nat.{zero-add}
+use lib.ListN.{length, take, drop, getD}
+use lib.Seq.{sets, sets-eq, length-sets, take-append-seam, drop-append-seam}
+use Rattle.modbus.specs.Step.{go}
+use Rattle.modbus.specs.Bytes.{Bytes}
+use Rattle.modbus.specs.Table.{Tables, Tab, coils, discretes, holdings, inputs}
+use Rattle.modbus.specs.Request.{Ask, apply}
+use Rattle.modbus.specs.Storage.{registerAt}
+use Rattle.modbus.specs.Setup.{Setup, Valid, valid?, Roomy, roomy?}
+use Rattle.modbus.specs.Decode.{Message}
+use Rattle.modbus.specs.Drive.{Result, judge, drive}
+use Rattle.modbus.proofs.StepLaws.{needed}
+use Rattle.modbus.proofs.BytesLaws.{word-at}
+use Rattle.modbus.proofs.StorageLaws.{coil-bit}
+use Rattle.modbus.proofs.AnswerLaws.{Proper}
+use Rattle.modbus.proofs.DriveLaws.{stop-after, go-low, go-after, by-judge}
+use Rattle.driver.specs.Driven.{Lent, tablesOf, cellsOf, setupOf, coilsBy, holdingsBy, Given, given, told, driven, called}
+use Rattle.demands.specs.Demand.{Demand3}
+use Rattle.demands.specs.Order.{Refusal, bad-setup, no-room}
+use Rattle.demands.specs.OnBytes.{lentAfter, showed, refusing, Unwritten, Kept}
+use Rattle.demands.proofs.CellLaws.{apply-stored, same-cells}
+use Rattle.demands.proofs.Judge.{requested, judge-serves, refusal-given}
+use Rattle.demands.proofs.Exactly.{refusal-high, exactly}
+use Rattle.demands.proofs.Replies.{reply-room}
+use Rattle.demands.proofs.StoredLaws.{ask-stored, coils-length, holdings-length, coils-free, holdings-free, spare-free}
+use Rattle.demands.proofs.Third.{demand-3}
+
+judge-valid : (s : Setup) (f : List ℕ) {w : Message × Ask} → judge s f ≡ go w → Valid s
+unfolding judge
+judge-valid s f e = needed _ _ _ e λ valid _. valid
+
+-- the cells of bytes hold what cells can hold
+proper : (l : Lent) → Bytes (l .holdingBytes) → Bytes (l .inputBytes) → Proper (tablesOf l)
+unfolding registerAt
+proper l h k coils i = coil-bit (l .coilBytes) i
+proper l h k discretes i = coil-bit (l .discreteBytes) i
+proper l h k holdings i = word-at (l .holdingBytes) (2 * i) h
+proper l h k inputs i = word-at (l .inputBytes) (2 * i) k
+
+-- a reply fits the buffer of any setup, since none is given without room for it
+fits : (s : Setup) (t : Tables) (f : List ℕ) → Bytes f → Proper t → length (drive s t f .reply) ≤ s .room
+fits s t f y p =
+    by-cases (roomy? s)
+    (λ r. omega (arith, reply-room s t f y p))
+    (λ n. by-cases (valid? s)
+    (λ v. let e = refusal-given s t f y (no-room v n) .2 in rw e (omega arith))
+    (λ w. let e = refusal-given s t f y (bad-setup w) .2 in rw e (omega arith)))
+
+front : (l vs : List ℕ) → length vs ≤ length l → sets l 0 vs ≡ vs ++ drop (length vs) l
+front l vs h = sets-eq vs l 0 (omega arith) ∙ rw zero-add
+
+module _ (transport unit : ℕ) (list : List ℕ) (l : Lent) (frame reply : List ℕ) (y : Bytes frame) where
+  abbrev s : Setup
+  s = setupOf transport unit list l reply
+
+  -- what the call gives on bytes, and what the definitions say on cells
+  abbrev call : Given
+  call = called transport unit list l frame reply
+
+  abbrev due : Result
+  due = drive s (tablesOf l) frame
+
+  -- ---- the tables
+
+  call-after : tablesOf (lentAfter l call) ≡ due .after
+  unfolding driven drive
+  call-after =
+      by-judge s frame
+      (λ x e. rw (e, stop-after s (tablesOf l) x))
+      (λ m a e.
+      let h = judge-serves s frame y m a e in
+      rw (e, go-after s (tablesOf l) m a)
+      (same-cells
+      (ask-stored transport unit list l reply (judge-valid s frame e) a (h .permitted) (h .inside))
+      (apply-stored a (tablesOf l))))
+
+  call-lengths : (length (call .coilBytes) ≡ length (l .coilBytes)) × (length (call .holdingBytes) ≡ length (l .holdingBytes))
+  unfolding driven
+  call-lengths =
+      by-judge s frame
+      (λ x e. rw e (refl, refl))
+      (λ m a e. rw e (coils-length a (l .coilBytes), holdings-length a (l .holdingBytes)))
+
+  outside-cells : (tab : Tab) (i : ℕ) → Unwritten s frame tab i → tablesOf (lentAfter l call) tab i ≡ tablesOf l tab i
+  unfolding drive
+  outside-cells tab i n =
+      ap (λ (t : Tables). t tab i) call-after
+      ∙ by-judge s frame
+      (λ x e. rw (e, stop-after s (tablesOf l) x))
+      (λ m a e.
+      let free = n (requested m a) (judge-serves s frame y m a e) in
+      rw (e, go-after s (tablesOf l) m a) (apply-stored a (tablesOf l) .keeps tab i free))
+
+  outside-coils : (b : ℕ) → ((i : ℕ) → b ≡ i / 8 → Unwritten s frame coils i) → getD (call .coilBytes) b 0 ≡ getD (l .coilBytes) b 0
+  unfolding driven
+  outside-coils b n =
+      by-judge s frame
+      (λ x e. rw e)
+      (λ m a e. rw e (coils-free a (l .coilBytes) b (λ i q. n i q (requested m a) (judge-serves s frame y m a e))))
+
+  outside-holdings : (b : ℕ) → Unwritten s frame holdings (b / 2) → getD (call .holdingBytes) b 0 ≡ getD (l .holdingBytes) b 0
+  unfolding driven
+  outside-holdings b n =
+      by-judge s frame
+      (λ x e. rw e)
+      (λ m a e. rw e (holdings-free a (l .holdingBytes) b (n (requested m a) (judge-serves s frame y m a e))))
+
+  spare-unwritten : (tab : Tab) (i : ℕ) → cellsOf l tab ≤ i → Unwritten s frame tab i
+  spare-unwritten tab i n q v = spare-free s tab i n (q .ask) (v .inside)
+
+  -- ---- the numbers and the reply
+
+  call-room : length (call .replyBytes) ≡ length reply
+  unfolding driven drive
+  call-room = length-sets reply 0 (due .reply)
+
+  module _ (h : Bytes (l .holdingBytes)) (k : Bytes (l .inputBytes)) where
+    due-fits : length (due .reply) ≤ length reply
+    due-fits = fits s (tablesOf l) frame y (proper l h k)
+
+    call-laid : call
+        ≡ given (told due) (due .reply ++ drop (length (due .reply)) reply)
+        (coilsBy (judge s frame) (l .coilBytes)) (holdingsBy (judge s frame) (l .holdingBytes))
+    unfolding driven drive
+    call-laid =
+        ap
+        (λ b. given (told due) b (coilsBy (judge s frame) (l .coilBytes)) (holdingsBy (judge s frame) (l .holdingBytes)))
+        (front reply (due .reply) due-fits)
+
+    call-reply : take (call .numbers .2) (call .replyBytes) ≡ due .reply
+    call-reply = rw call-laid (take-append-seam (due .reply) _)
+
+    call-rest : drop (call .numbers .2) (call .replyBytes) ≡ drop (call .numbers .2) reply
+    call-rest = rw call-laid (drop-append-seam (due .reply) _)
+
+    call-fits : call .numbers .2 ≤ length reply
+    call-fits = rw call-laid due-fits
+
+    call-due : showed l call ≡ due
+    unfolding driven drive
+    call-due = λ i. record { outcome = due .outcome; exceptionCode = due .exceptionCode; reply = call-reply i; after = call-after i }
+
+    call-refusing : 2 ≤ due .outcome → call ≡ refusing l reply (due .outcome) (due .exceptionCode) (due .reply)
+    unfolding drive
+    call-refusing high =
+        call-laid
+        ∙ by-judge s frame
+        (λ x e. rw e)
+        (λ m a e. absurd (let low : due .outcome < 2 = rw e (go-low s (tablesOf l) m a) in omega arith))
+
+  -- ---- any call that the contract allows
+
+  module _ (g : Given) (e : g ≡ call) where
+    -- the cells of the bytes after a served request, spare ones included
+    pub cells-after : (m : Message) (a : Ask) → judge s frame ≡ go (m, a) → (tab : Tab) (i : ℕ)
+        → tablesOf (lentAfter l g) tab i ≡ apply a (tablesOf l) tab i
+    unfolding drive
+    cells-after m a j tab i =
+        let z : due .after ≡ apply a (tablesOf l) = rw j (go-after s (tablesOf l) m a) in
+        rw e (ap (λ (t : Tables). t tab i) (call-after ∙ z))
+
+    module _ (h : Bytes (l .holdingBytes)) (k : Bytes (l .inputBytes)) where
+      -- what it showed is what the definitions say, whatever the setup
+      pub showed-drive : showed l g ≡ drive s (tablesOf l) frame
+      showed-drive = rw e (call-due h k)
+
+      pub demand-on-bytes : Valid s → Roomy s → Demand3 s (tablesOf l) frame (showed l g)
+      demand-on-bytes v r = rw showed-drive (demand-3 s (tablesOf l) frame y v r)
+
+      -- an outcome from 2 on is a refusal that is due, whatever the setup
+      pub refused-on-bytes : (2 ≤ g .numbers .0) ↔ Refusal s frame (g .numbers .0) (g .numbers .1) (take (g .numbers .2) (g .replyBytes))
+      refused-on-bytes = (
+        λ high.
+            let z : due ≡ showed l g = sym showed-drive in
+            exactly s (tablesOf l) frame y _ _ _ high .1
+            (ap (λ x. x .outcome) z, ap (λ x. x .exceptionCode) z, ap (λ x. x .reply) z),
+        λ r. refusal-high s frame r,
+      )
+
+      -- and every refusal that is due is given, with not a byte beside its reply changed
+      pub refusals-on-bytes : (o c : ℕ) (r : List ℕ) → 2 ≤ o → Refusal s frame o c r ↔ (g ≡ refusing l reply o c r)
+      refusals-on-bytes o c r high = (
+        λ q.
+            let (p, w, x) = refusal-given s (tablesOf l) frame y q in
+            e ∙ rw (p, w, x) at (call-refusing h k (rw p high)),
+        λ q.
+            let z : due ≡ showed l (refusing l reply o c r) = sym showed-drive ∙ ap (showed l) q in
+            exactly s (tablesOf l) frame y o c r high .1
+            (ap (λ x. x .outcome) z, ap (λ x. x .exceptionCode) z, ap (λ x. x .reply) z ∙ take-append-seam r _),
+      )
+
+      pub kept-on-bytes : Kept s l frame reply g
+      kept-on-bytes =
+          rw e
+          (record {
+            coilLength = call-lengths .0;
+            holdingLength = call-lengths .1;
+            replyLength = call-room;
+            replyFits = call-fits h k;
+            replyRest = call-rest h k;
+            coilsOutside = outside-cells coils;
+            holdingsOutside = outside-holdings;
+            spareBits = λ i n. outside-cells coils i (spare-unwritten coils i n);
+            spareCoilBytes = λ b n. outside-coils b (λ i q. spare-unwritten coils i (omega arith));
+            spareHoldingBytes = λ b n. outside-holdings b (spare-unwritten holdings (b / 2) (omega arith));
+          })

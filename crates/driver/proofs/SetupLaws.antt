@@ -1,0 +1,48 @@
+-- A test that answers true exactly where its condition holds; and what the transport's number tells.
+-- Assumes nothing.
+use mathlib.Core.Bool.{Bool, true, false}
+use mathlib.Core.Path.{_≡_, refl, sym, _∙_}
+use mathlib.Core.List.{List}
+use Prim.Native.Nat.{ℕ, zero, suc, _≤_, _<_}
+use native.Mathlib.Omega.{arith}
+use Rattle.modbus.specs.Step.{choose}
+use Rattle.modbus.specs.Paper.{protoOf}
+use Rattle.modbus.specs.Setup.{roomFor}
+use Rattle.modbus.specs.declared.ModbusProto.the-variants.{TcpUdp}
+use Rattle.modbus.proofs.StepLaws.{picked}
+use Rattle.driver.specs.Serving.{source, startOf}
+
+module _ {P : Type 0} (d : Dec P) (r : Bool) (e : r ≡ choose d true false) where
+  pub holds : r ≡ true → P
+  holds h = picked _ _ _ (sym e ∙ h) (λ p q. p) (λ p q. let z : _≡_ {A = ℕ} 0 1 = cc in absurd (omega arith))
+
+  pub holds-not : r ≡ false → ¬ P
+  holds-not h = picked _ _ _ (sym e ∙ h) (λ p q. let z : _≡_ {A = ℕ} 0 1 = cc in absurd (omega arith)) (λ p q. p)
+
+pub room-other : (n : ℕ) → ¬ (n ≡ 1) → 260 ≡ roomFor (protoOf n)
+room-other zero ne = refl
+room-other (suc zero) ne = absurd (ne refl)
+room-other (suc (suc n)) ne = refl
+
+pub start-serial : (n : ℕ) → n < 2 → 0 ≡ startOf (protoOf n)
+start-serial zero h = refl
+start-serial (suc zero) h = refl
+start-serial (suc (suc n)) h = absurd (omega arith)
+
+pub start-tcp : (n : ℕ) → 2 ≤ n → 6 ≡ startOf (protoOf n)
+start-tcp zero h = absurd (omega arith)
+start-tcp (suc zero) h = absurd (omega arith)
+start-tcp (suc (suc n)) h = refl
+
+pub proto-tcp : (n : ℕ) → ¬ (n ≡ 0) → ¬ (n ≡ 1) → protoOf n ≡ TcpUdp
+proto-tcp zero h k = absurd (h refl)
+proto-tcp (suc zero) h k = absurd (k refl)
+proto-tcp (suc (suc n)) h k = refl
+
+pub source-ascii : (n : ℕ) (f raw : List ℕ) → n ≡ 1 → source (protoOf n) f raw ≡ raw
+source-ascii n f raw e = rw e
+
+pub source-other : (n : ℕ) (f raw : List ℕ) → ¬ (n ≡ 1) → source (protoOf n) f raw ≡ f
+source-other zero f raw ne = refl
+source-other (suc zero) f raw ne = absurd (ne refl)
+source-other (suc (suc n)) f raw ne = refl

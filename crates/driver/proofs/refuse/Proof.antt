@@ -1,0 +1,48 @@
+-- `driver::refuse` meets its contract.
+-- Assumes nothing.
+use Prim.Native.Nat.{_≤_}
+use native.Mathlib.Omega.{arith}
+use lib.ListN.{length}
+use Rattle.driver.proofs.ServingLaws.{front-three}
+use borrow.Author.Needs.{needs}
+use Rattle.driver.proofs.refuse.Statement.{statement}
+use Rattle.driver.proofs.refuse.Tie as tie
+
+shared-slice-read-out : tie.Need-shared-slice-read-out
+shared-slice-read-out c = search needs
+
+slice-write-out : tie.Need-slice-write-out
+slice-write-out c = search needs
+
+shared-slice-read-out-2 : tie.Need-shared-slice-read-out-2
+shared-slice-read-out-2 c = search needs
+
+add-out : tie.Need-add-out
+add-out c = search needs
+
+slice-write-out-2 : tie.Need-slice-write-out-2
+slice-write-out-2 c = search needs
+
+slice-write-out-3 : tie.Need-slice-write-out-3
+slice-write-out-3 c = search needs
+
+same-length : tie.Need-same-length
+same-length c = search needs
+
+returns : tie.Need-returns
+returns c =
+    let h : 3 ≤ length (c .before .before .args .out .now) = omega arith in
+    (rw front-three, tt)
+
+pub refuse-spec : {M : Type 1} → statement M
+refuse-spec =
+    tie.close
+    (tie.spec
+    shared-slice-read-out
+    slice-write-out
+    shared-slice-read-out-2
+    add-out
+    slice-write-out-2
+    slice-write-out-3
+    same-length
+    returns)

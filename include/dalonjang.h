@@ -1,0 +1,170 @@
+/* Dalonjang: a proved Modbus server for firmware in C or C++. Link with libdalonjang.a (`rt staticlib dalonjang`).
+ *
+ * One call takes one whole request frame as it came over the line, serves it on four tables that you lend, and writes
+ * the reply frame into a buffer that you lend. Four more calls help to collect a frame byte by byte and to turn bytes
+ * into Modbus ASCII text and back.
+ *
+ * Slices. Every buffer is a pointer, then its length in bytes. A NULL with length 0 is an empty slice. A pointer need
+ *   only be good for exactly that many bytes: nothing is read or written before or after them, and nothing needs to be
+ *   aligned. A slice that is `const` here is only read.
+ * Overlap. In one call no lent buffer may overlap another. In particular the reply must not be written over the frame.
+ *   The calls cannot see an overlap and do not refuse it.
+ * State. There is none: no allocation, no static data, no input or output. Every call is reentrant and may run in any
+ *   thread or interrupt, as long as nobody else uses the lent buffers meanwhile.
+ * Stack. At most 2 KiB for a call (the most measured is 1,944 bytes, an ASCII reply of 511 bytes); no recursion.
+ * Every input is answered: a call never crashes, loops or needs anything of its arguments but the above.
+ *
+ * The rules are those of document 01; its numbers stand in the enumerators below.
+ *
+ * Example: 16 coils, 4 holding registers, a Modbus TCP frame of n bytes.
+ *
+ *     static uint8_t coils[2], holdings[8];
+ *     uint8_t reply[DALONJANG_REPLY_ROOM];
+ *     const uint8_t everyone[] = {0};
+ *     struct dalonjang_result r = dalonjang_drive(DALONJANG_TCP, 1, everyone, sizeof everyone,
+ *         coils, sizeof coils, 16, NULL, 0, 0, holdings, sizeof holdings, 4, NULL, 0, 0,
+ *         frame, n, reply, sizeof reply);
+ *     if (r.length > 0) send(reply, r.length);                     // the reply, or the exception to be sent back
+ *     if (r.outcome == DALONJANG_ANSWERED || r.outcome == DALONJANG_BROADCAST_DONE) redraw(coils, holdings);
+ */
+#ifndef DALONJANG_H
+#define DALONJANG_H
+#include <stddef.h>
+#include <stdint.h>
+
+#ifdef __cplusplus
+extern "C" {
+#endif
+
+/* How frames travel. Any other number is refused: 10 before all else. */
+enum dalonjang_transport {
+    DALONJANG_RTU = 0,   /* bytes, then the CRC, low byte first */
+    DALONJANG_ASCII = 1, /* a colon, pairs of digits 0-9 A-F, the last pair the LRC, CR, LF */
+    DALONJANG_TCP = 2    /* transaction, zero, length, then bytes without a check */
+};
+
+/* The least room for a reply; with less the outcome is DALONJANG_NO_ROOM, whatever the request. */
+enum {
+    DALONJANG_REPLY_ROOM = 260,      /* RTU and TCP */
+    DALONJANG_REPLY_ROOM_ASCII = 511
+};
+
+/* The most cells that a table may have. */
+#define DALONJANG_MOST_CELLS ((size_t)65536)
+
+/* What became of a request. The first fault in the order BAD_SETUP, NO_ROOM, FRAME_BROKEN, FRAME_CHECK, FOREIGN,
+ * BAD_FUNCTION, ILLEGAL_FUNCTION, broadcast read, WRONG_LENGTH, ILLEGAL_DATA_VALUE, ILLEGAL_DATA_ADDRESS decides.
+ * Only ANSWERED and BROADCAST_DONE may have changed tables; only ANSWERED and EXCEPTION have a reply. */
+enum dalonjang_outcome {
+    DALONJANG_ANSWERED = 0,          /* served for our unit: send the reply. Code 0 */
+    DALONJANG_BROADCAST_DONE = 1,    /* a write served for a broadcast number: no reply is sent. Code 0 */
+    DALONJANG_EXCEPTION = 2,         /* refused with a code of 1 to 3: send the reply, it carries the code */
+    DALONJANG_BROADCAST_IGNORED = 3, /* to a broadcast number: a read (code 0), or a fault with its code of 1 to 3 */
+    DALONJANG_FOREIGN = 4,           /* for another unit. Code 0, as for all below */
+    DALONJANG_FRAME_BROKEN = 5,      /* not the shape of a frame: length, header, digits, colon, CR LF */
+    DALONJANG_FRAME_CHECK = 6,       /* the CRC or LRC is wrong */
+    DALONJANG_WRONG_LENGTH = 7,      /* the length does not fit the function */
+    DALONJANG_BAD_FUNCTION = 8,      /* function 128 to 255: no request */
+    DALONJANG_NO_ROOM = 9,           /* the lent reply buffer is under 260 bytes, or 511 for ASCII */
+    DALONJANG_BAD_SETUP = 10         /* transport above 2, more than 65,536 cells, or a table too short for its cells */
+};
+
+/* The code of an exception, as the Modbus document numbers them. */
+enum dalonjang_code {
+    DALONJANG_NO_CODE = 0,
+    DALONJANG_ILLEGAL_FUNCTION = 1,     /* a function below 128 other than 1, 2, 3, 4, 5, 6, 15 and 16 */
+    DALONJANG_ILLEGAL_DATA_ADDRESS = 2, /* start + count is more than the cells of the table */
+    DALONJANG_ILLEGAL_DATA_VALUE = 3    /* a count, byte count or coil value outside the Modbus document's limits */
+};
+
+struct dalonjang_result {
+    size_t length;   /* bytes of reply to be sent; 0 unless outcome is ANSWERED or EXCEPTION */
+    uint8_t outcome; /* enum dalonjang_outcome */
+    uint8_t code;    /* enum dalonjang_code; 0 unless outcome is EXCEPTION or BROADCAST_IGNORED */
+};
+
+/* Serves one request frame.
+ *
+ * transport      enum dalonjang_transport.
+ * unit           our unit number.
+ * list           the broadcast numbers, mostly {0}; may be empty. The list wins: if unit stands in it, every request to
+ *                us is a broadcast and none is answered.
+ * coils, discretes
+ *                one bit a cell: cell n is bit n % 8, lowest first, of byte n / 8. At least cells / 8 bytes, rounded
+ *                up.
+ * holdings, inputs
+ *                two bytes a cell, high byte first. At least 2 x cells bytes.
+ * .._cells       how many cells the table has, 0 to 65,536. A table of 0 cells may be an empty slice.
+ * frame          the frame, whole and as sent: RTU with its CRC, ASCII as text from the colon to CR LF, TCP with its
+ *                header. Lengths outside the limits (RTU 4 to 256, ASCII 9 to 511, TCP 12 to 256) are FRAME_BROKEN.
+ * reply          room for the reply, DALONJANG_REPLY_ROOM or DALONJANG_REPLY_ROOM_ASCII bytes or more.
+ *
+ * What is left behind:
+ *   reply        the first `length` bytes are the reply frame, ready to be sent; all others are as you lent them. With
+ *                length 0 the whole buffer is as lent.
+ *   coils, holdings
+ *                ANSWERED and BROADCAST_DONE of functions 5, 6, 15 and 16 store exactly the cells that the request
+ *                names. Every other cell, and the spare bits and bytes after the last cell, stay; after every other
+ *                outcome the whole table is as lent.
+ *   list, discretes, inputs, frame
+ *                never written. */
+struct dalonjang_result dalonjang_drive(uint8_t transport, uint8_t unit, const uint8_t *list, size_t list_len,
+    uint8_t *coils, size_t coils_len, size_t coil_cells, const uint8_t *discretes, size_t discretes_len,
+    size_t discrete_cells, uint8_t *holdings, size_t holdings_len, size_t holding_cells, const uint8_t *inputs,
+    size_t inputs_len, size_t input_cells, const uint8_t *frame, size_t frame_len, uint8_t *reply, size_t reply_len);
+
+/* How the four calls below answer. Document 01 numbers more kinds; these calls give no others. */
+enum dalonjang_kind {
+    DALONJANG_KIND_VALUE = 0,        /* value holds */
+    DALONJANG_KIND_BAD_SETUP = 10,   /* transport above 2 */
+    DALONJANG_KIND_OOB = 21,         /* more bytes are needed, or there is no room for them */
+    DALONJANG_KIND_FRAME_BROKEN = 23 /* not the beginning of a frame, or not a digit */
+};
+
+struct dalonjang_answer {
+    size_t value; /* 0 unless kind is VALUE */
+    uint8_t kind; /* enum dalonjang_kind */
+};
+
+/* How long will the request be that begins with these bytes? For reading a line byte by byte.
+ *
+ * frame          what has come so far, as sent; more than is needed does no harm (on ASCII, if it is text too).
+ * proto          enum dalonjang_transport.
+ * VALUE          the length of the whole frame as sent, check, header and CR LF included; at most 255.
+ * OOB            too little has come: RTU needs 2 bytes, 7 for functions 15 and 16; ASCII the colon and as many pairs;
+ *                TCP 6. ASCII also where a digit stands alone, or 255 pairs are followed by anything.
+ * FRAME_BROKEN   the frame would be longer than 255 (byte count above 246 on RTU, 118 on ASCII; TCP length above 249),
+ *                the TCP protocol number is not zero, or an ASCII character is no digit (lower case is none).
+ * BAD_SETUP      proto above 2.
+ * An unknown function is guessed as six bytes between header and check. Nothing is written in any case. */
+struct dalonjang_answer dalonjang_guess_request_frame_len(const uint8_t *frame, size_t frame_len, uint8_t proto);
+
+/* The same for a response, for whoever asks: functions 1 to 4 by the byte count in the third byte (at most 250 on RTU,
+ * 122 on ASCII), an exception (function 128 and above) from two bytes on, all others from three bytes on. A function
+ * below 128 that is not served is FRAME_BROKEN. Nothing is written in any case. */
+struct dalonjang_answer dalonjang_guess_response_frame_len(const uint8_t *buf, size_t buf_len, uint8_t proto);
+
+/* Turns Modbus ASCII text into bytes, all of a line or the next part of one.
+ *
+ * data           the text, data_size bytes of it, of which the first data_len are taken. A colon at the start is
+ *                skipped; LF, CR or NUL ends the text.
+ * frame_buf      where the bytes go, the first to frame_buf[frame_pos].
+ * VALUE          how many bytes were written.
+ * OOB            no data; data_len beyond data_size and no end before; a digit alone at the end of the data; no room in
+ *                frame_buf; or position 255 reached with text left (looked at before the text's end is).
+ * FRAME_BROKEN   a character that is not 0-9 or A-F, also as the second of a pair.
+ * In every case, refusals included, the bytes decoded so far stand in frame_buf and its other bytes are as lent. */
+struct dalonjang_answer dalonjang_parse_ascii_frame(const uint8_t *data, size_t data_size, size_t data_len,
+    uint8_t *frame_buf, size_t frame_buf_len, uint8_t frame_pos);
+
+/* Turns bytes (the LRC among them) into a line of Modbus ASCII: a colon, a pair of digits for each, CR, LF.
+ *
+ * VALUE          the length of the line, 2 x data_len + 3. The rest of result is as lent.
+ * OOB            result is shorter than that; it is filled with as much of the line as it holds. */
+struct dalonjang_answer dalonjang_generate_ascii_frame(const uint8_t *data, size_t data_len,
+    uint8_t *result, size_t result_len);
+
+#ifdef __cplusplus
+}
+#endif
+#endif

@@ -1,0 +1,145 @@
+/* check_drive N: makes the calls of dalonjang_drive recorded on standard input (the format is in
+ * vectors/src/drive/record.rs) and compares outcome, code, length and every lent byte with what is expected. Each
+ * buffer stands against a page that cannot be touched.
+ * Status: 0 all equal and at least N calls, 1 a difference, 2 a short or malformed stream.
+ * Built with -DFAULT=1 to 6 the library's answer is made slightly wrong (../tests/asked.h), to show that it is seen. */
+#include "../tests/asked.h"
+#include "../tests/fence.h"
+#include <signal.h>
+#include <unistd.h>
+
+enum { LIST = TABLES, FRAME, REPLY, BUFFERS, HEAD = 45, OUTCOMES = 9, SHOWN = 1024 /* bytes printed */ };
+
+static const char *const outcome_name[OUTCOMES] = {"answered", "broadcast done", "exception", "broadcast ignored",
+    "foreign", "frame broken", "frame check", "wrong length", "bad function"};
+static const char *const buffer_name[BUFFERS] = {"coils", "discretes", "holdings", "inputs", "list", "frame", "reply"};
+
+static struct record {
+    uint8_t transport, unit, otherwise, outcome, code; /* otherwise: than the crate */
+    size_t len[BUFFERS], cells[TABLES], reply_len;
+    uint8_t before[BUFFERS][ROOM], after[BUFFERS][ROOM];
+} record;
+static unsigned long number; /* of the record, from 0 */
+
+static size_t big_endian(const uint8_t *b, int width) {
+    size_t n = 0;
+    while (width-- > 0) n = n << 8 | *b++;
+    return n;
+}
+
+static int got_bytes(uint8_t *bytes, size_t len) { return len <= ROOM && fread(bytes, 1, len, stdin) == len; }
+
+static uint8_t as_lent(size_t i) { return (uint8_t)(0x5A + i); }
+
+/* The rest of a record, whose head this is. */
+static int rest_of(const uint8_t *head) {
+    struct record *r = &record;
+    r->transport = head[0], r->unit = head[1], r->otherwise = head[3], r->outcome = head[4], r->code = head[5];
+    r->len[LIST] = head[2];
+    r->len[FRAME] = big_endian(head + 6, 2);
+    r->len[REPLY] = big_endian(head + 8, 2);
+    r->reply_len = big_endian(head + 10, 2);
+    for (int t = 0; t < TABLES; t++) {
+        r->cells[t] = big_endian(head + 13 + 8 * t, 4);
+        r->len[t] = big_endian(head + 17 + 8 * t, 4);
+    }
+    for (size_t i = 0; i < r->len[REPLY]; i++) r->before[REPLY][i] = as_lent(i);
+    if (!got_bytes(r->before[LIST], r->len[LIST]) || !got_bytes(r->before[FRAME], r->len[FRAME])) return 0;
+    for (int t = 0; t < TABLES; t++)
+        if (!got_bytes(r->before[t], r->len[t])) return 0;
+    for (int i = 0; i < BUFFERS; i++) memcpy(r->after[i], r->before[i], r->len[i]);
+    return r->outcome < OUTCOMES && r->reply_len <= r->len[REPLY]
+        && got_bytes(r->after[REPLY], r->reply_len)
+        && (!(head[12] & 1) || got_bytes(r->after[COILS], r->len[COILS]))
+        && (!(head[12] & 2) || got_bytes(r->after[HOLDINGS], r->len[HOLDINGS]));
+}
+
+/* 1: a record was read, 0: the stream ended before one. */
+static int next_record(void) {
+    uint8_t head[HEAD];
+    size_t got = fread(head, 1, sizeof head, stdin);
+    if (got == 0) return 0;
+    if (got == sizeof head && rest_of(head)) return 1;
+    fprintf(stderr, "check_drive: record %lu is short or malformed\n", number);
+    exit(2);
+}
+
+static void print_bytes(const char *name, const uint8_t *bytes, size_t len) {
+    printf("\n  %s", name);
+    for (size_t i = 0; i < len && i < SHOWN; i++) printf(" %02X", bytes[i]);
+    if (len > SHOWN) printf(" ..");
+}
+
+static void print_call(const char *what) {
+    const struct record *r = &record;
+    printf("%s at record %lu: transport %u, unit %u, cells %zu %zu %zu %zu", what, number, r->transport, r->unit,
+           r->cells[0], r->cells[1], r->cells[2], r->cells[3]);
+    for (int i = 0; i < REPLY; i++) print_bytes(buffer_name[i], r->before[i], r->len[i]);
+    printf("\n  expected: outcome %u, code %u, reply of %zu bytes (%s)", r->outcome, r->code, r->reply_len,
+           r->otherwise == 0 ? "the crate's" : "document 01's, not the crate's");
+}
+
+static void touched_a_fence(int signal_number) {
+    (void)signal_number;
+    print_call("a byte outside the slices was touched");
+    puts("");
+    fflush(stdout);
+    _exit(1);
+}
+
+static int equal(const struct slice *lent, struct dalonjang_result r) {
+    if (r.outcome != record.outcome || r.code != record.code || r.length != record.reply_len) return 0;
+    for (int i = 0; i < BUFFERS; i++)
+        if (memcmp(lent[i].bytes, record.after[i], record.len[i]) != 0
+            || !margin_untouched(lent[i].bytes, record.len[i], number)) return 0;
+    return 1;
+}
+
+int main(int argc, char **argv) {
+    static char stream[1 << 16];
+    unsigned long wanted = argc == 2 ? strtoul(argv[1], NULL, 10) : 0, count[OUTCOMES] = {0}, otherwise = 0;
+    if (wanted == 0) {
+        fputs("usage: check_drive N <RECORDS\n", stderr);
+        return 2;
+    }
+    setvbuf(stdin, stream, _IOFBF, sizeof stream);
+    signal(SIGSEGV, touched_a_fence);
+    uint8_t *room[BUFFERS];
+    for (int i = 0; i < BUFFERS; i++) room[i] = fenced();
+    for (; next_record(); number++) {
+        struct slice lent[BUFFERS];
+        for (int i = 0; i < BUFFERS; i++) {
+            lent[i] = (struct slice){place(room[i], record.len[i], number), record.len[i]};
+            memcpy(lent[i].bytes, record.before[i], record.len[i]);
+        }
+        struct asked a = {.transport = record.transport, .unit = record.unit, .list = lent[LIST], .frame = lent[FRAME],
+                          .reply = lent[REPLY]};
+        memcpy(a.table, lent, sizeof a.table);
+        memcpy(a.cells, record.cells, sizeof a.cells);
+        struct dalonjang_result r = drive(&a);
+        if (!equal(lent, r)) {
+            print_call("different");
+            printf("\n  given: outcome %u, code %u, length %zu", r.outcome, r.code, r.length);
+            for (int i = 0; i < BUFFERS; i++)
+                if (memcmp(lent[i].bytes, record.after[i], record.len[i]) != 0) {
+                    printf("\n%s:", buffer_name[i]);
+                    print_bytes("expected", record.after[i], record.len[i]);
+                    print_bytes("given   ", lent[i].bytes, record.len[i]);
+                }
+            puts("");
+            return 1;
+        }
+        for (int i = 0; i < BUFFERS; i++) memset(lent[i].bytes, UNTOUCHED, lent[i].len);
+        count[r.outcome]++;
+        otherwise += record.otherwise != 0;
+    }
+    if (number < wanted) {
+        fprintf(stderr, "check_drive: %lu records came, %lu were expected\n", number, wanted);
+        return 2;
+    }
+    printf("%lu frames, %lu replies and tables as the crate's, %lu as document 01 has them:", number,
+           number - otherwise, otherwise);
+    for (int o = 0; o < OUTCOMES; o++) printf("%s %s %lu", o == 0 ? "" : ",", outcome_name[o], count[o]);
+    puts("");
+    return 0;
+}

@@ -1,0 +1,10 @@
+//! Module 8: document 01's driver beside the crate's own chain (decode, parse, process, finalize, encode), on whole
+//! frames.
+pub mod answer;
+mod chain;
+pub mod edges;
+mod lenient;
+mod model;
+pub mod random;
+pub mod record;
+mod wire;

@@ -1,0 +1,186 @@
+//! Document 01's driver, written plainly from the page.
+use super::record::*;
+use super::wire::*;
+use crate::record::{ASCII, RTU};
+
+pub const ANSWERED: u8 = 0;
+pub const BROADCAST_DONE: u8 = 1;
+pub const EXCEPTION: u8 = 2;
+pub const BROADCAST_IGNORED: u8 = 3;
+pub const FOREIGN: u8 = 4;
+pub const FRAME_BROKEN: u8 = 5;
+pub const FRAME_CHECK: u8 = 6;
+pub const WRONG_LENGTH: u8 = 7;
+pub const BAD_FUNCTION: u8 = 8;
+pub const NO_ROOM: u8 = 9;
+
+pub fn served(function: u8) -> bool {
+    matches!(function, 1..=6 | 15 | 16)
+}
+
+/// The table of a function that is served.
+pub fn table_of(function: u8) -> usize {
+    match function {
+        1 | 5 | 15 => COILS,
+        2 => DISCRETES,
+        4 => INPUTS,
+        _ => HOLDINGS,
+    }
+}
+
+/// Outcome, code, and what is left.
+pub fn drive(call: &Call) -> (u8, u8, Left) {
+    let (outcome, code, body) = match unwrap(call) {
+        Ok(body) => {
+            let (outcome, code) = judge(call, &body);
+            (outcome, code, body)
+        }
+        Err(outcome) => (outcome, 0, Vec::new()),
+    };
+    let mut left = call.untouched();
+    let reply = match outcome {
+        ANSWERED | BROADCAST_DONE => serve(call, &body, &mut left),
+        EXCEPTION => vec![body[0], body[1] + 128, code],
+        _ => Vec::new(),
+    };
+    if outcome == ANSWERED || outcome == EXCEPTION {
+        left.reply = wrap(call.transport, transaction(call.transport, &call.frame), &reply);
+    }
+    (outcome, code, left)
+}
+
+/// From the unit byte, without check; or NoRoom, FrameBroken, FrameCheck.
+fn unwrap(call: &Call) -> Result<Vec<u8>, u8> {
+    let frame = &call.frame;
+    if call.room < if call.transport == ASCII { 511 } else { 260 } {
+        return Err(NO_ROOM);
+    }
+    match call.transport {
+        RTU => {
+            if !(4..=256).contains(&frame.len()) {
+                return Err(FRAME_BROKEN);
+            }
+            let (body, check) = frame.split_at(frame.len() - 2);
+            if crc(body).to_le_bytes() == check {
+                Ok(body.to_vec())
+            } else {
+                Err(FRAME_CHECK)
+            }
+        }
+        ASCII => {
+            let digits = frame.strip_prefix(b":").and_then(|f| f.strip_suffix(b"\r\n")).ok_or(FRAME_BROKEN)?;
+            let even = digits.len() % 2 == 0 && (6..=508).contains(&digits.len());
+            if !even || !digits.iter().all(|c| matches!(c, b'0'..=b'9' | b'A'..=b'F')) {
+                return Err(FRAME_BROKEN);
+            }
+            let value = |c: u8| if c <= b'9' { c - b'0' } else { c - b'A' + 10 };
+            let mut body: Vec<u8> = digits.chunks(2).map(|pair| 16 * value(pair[0]) + value(pair[1])).collect();
+            if lrc(&body) != 0 {
+                return Err(FRAME_CHECK);
+            }
+            body.pop();
+            Ok(body)
+        }
+        _ => {
+            let right = (12..=256).contains(&frame.len()) && word(frame, 2) == 0 && word(frame, 4) == frame.len() - 6;
+            if right {
+                Ok(frame[6..].to_vec())
+            } else {
+                Err(FRAME_BROKEN)
+            }
+        }
+    }
+}
+
+/// From Foreign on: outcome and code.
+fn judge(call: &Call, body: &[u8]) -> (u8, u8) {
+    let (unit, function) = (body[0], body[1]);
+    let broadcast = call.list.contains(&unit);
+    let fault = |code| (if broadcast { BROADCAST_IGNORED } else { EXCEPTION }, code);
+    if !broadcast && unit != call.unit {
+        return (FOREIGN, 0);
+    }
+    if function >= 128 {
+        return (BAD_FUNCTION, 0);
+    }
+    if !served(function) {
+        return fault(1);
+    }
+    if broadcast && function <= 4 {
+        return (BROADCAST_IGNORED, 0);
+    }
+    if body.len() != extent(body) {
+        return (WRONG_LENGTH, 0);
+    }
+    if !value_right(body) {
+        return fault(3);
+    }
+    if word(body, 2) + cells_asked(body) > call.tables[table_of(function)].cells {
+        return fault(2);
+    }
+    (if broadcast { BROADCAST_DONE } else { ANSWERED }, 0)
+}
+
+/// How long a request of this function is; for 15 and 16 at least 7.
+pub fn extent(body: &[u8]) -> usize {
+    if body[1] <= 6 {
+        6
+    } else {
+        7 + body.get(6).map_or(0, |bytes| usize::from(*bytes))
+    }
+}
+
+fn value_right(body: &[u8]) -> bool {
+    let count = word(body, 4);
+    match body[1] {
+        1 | 2 => (1..=2000).contains(&count),
+        3 | 4 => (1..=125).contains(&count),
+        5 => count == 0xFF00 || count == 0,
+        15 => (1..=1968).contains(&count) && usize::from(body[6]) == count.div_ceil(8),
+        16 => (1..=123).contains(&count) && usize::from(body[6]) == 2 * count,
+        _ => true,
+    }
+}
+
+pub fn cells_asked(body: &[u8]) -> usize {
+    if matches!(body[1], 5 | 6) {
+        1
+    } else {
+        word(body, 4)
+    }
+}
+
+/// The reply from the unit byte on; a write is done in `left`.
+fn serve(call: &Call, body: &[u8], left: &mut Left) -> Vec<u8> {
+    let (start, count) = (word(body, 2), word(body, 4));
+    match body[1] {
+        1..=4 => return read(call, body),
+        5 => put_bit(&mut left.coils, start, count != 0),
+        6 => left.holdings[2 * start..][..2].copy_from_slice(&body[4..6]),
+        15 => (0..count).for_each(|i| put_bit(&mut left.coils, start + i, bit(&body[7..], i))),
+        _ => left.holdings[2 * start..][..2 * count].copy_from_slice(&body[7..]),
+    }
+    body[..6].to_vec()
+}
+
+/// The reply to a read of cells that are there, from the unit byte on.
+pub fn read(call: &Call, body: &[u8]) -> Vec<u8> {
+    let (start, count, table) = (word(body, 2), word(body, 4), &call.tables[table_of(body[1])].bytes);
+    let data = if body[1] <= 2 {
+        let mut data = vec![0; count.div_ceil(8)];
+        (0..count).for_each(|i| put_bit(&mut data, i, bit(table, start + i)));
+        data
+    } else {
+        table[2 * start..2 * (start + count)].to_vec()
+    };
+    [&body[..2], &[data.len() as u8], &data[..]].concat()
+}
+
+pub fn bit(table: &[u8], cell: usize) -> bool {
+    table[cell / 8] >> (cell % 8) & 1 == 1
+}
+
+pub fn put_bit(table: &mut [u8], cell: usize, value: bool) {
+    let mask = 1 << (cell % 8);
+    table[cell / 8] = if value { table[cell / 8] | mask } else { table[cell / 8] & !mask };
+}

@@ -1,0 +1,92 @@
+//! A call of the driver, the answer expected, and the record that holds both. Numbers stand high byte first:
+//!
+//!     byte 0       transport
+//!     byte 1       unit
+//!     byte 2       the length of the list
+//!     byte 3       0: reply and tables are the crate's own, 1: they are document 01's, and the crate's differ
+//!     byte 4       the outcome expected
+//!     byte 5       the code expected
+//!     bytes 6-7    the length of the frame
+//!     bytes 8-9    the length of the lent reply buffer
+//!     bytes 10-11  the length of the reply expected
+//!     byte 12      1: the coils are expected to change, 2: the holdings, 0: neither
+//!     bytes 13-44  cells and slice length (4 bytes each) of coils, discretes, holdings, inputs
+//!     then the list, the frame, the four tables before the call, the reply expected and, where byte 12 says so, the
+//!     table as expected after it.
+//!     Before the call byte i of the lent reply buffer is (0x5A + i) % 256.
+use crate::tables::record::Table;
+
+pub const COILS: usize = 0;
+pub const DISCRETES: usize = 1;
+pub const HOLDINGS: usize = 2;
+pub const INPUTS: usize = 3;
+
+#[derive(Clone)]
+pub struct Call {
+    pub transport: u8,
+    pub unit: u8,
+    pub list: Vec<u8>,
+    pub tables: [Table; 4],
+    pub room: usize,
+    pub frame: Vec<u8>,
+}
+
+/// What a call answers and leaves. Discretes and inputs are never written.
+#[derive(Clone, PartialEq)]
+pub struct Left {
+    pub reply: Vec<u8>,
+    pub coils: Vec<u8>,
+    pub holdings: Vec<u8>,
+}
+
+pub struct Answer {
+    pub outcome: u8,
+    pub code: u8,
+    pub left: Left,
+    /// The way in which the crate differs, if it does, and what it leaves.
+    pub difference: Option<(&'static str, Left)>,
+}
+
+impl Call {
+    /// Tables as lent and no reply.
+    pub fn untouched(&self) -> Left {
+        let bytes = |table: usize| self.tables[table].bytes.clone();
+        Left { reply: Vec::new(), coils: bytes(COILS), holdings: bytes(HOLDINGS) }
+    }
+
+    pub fn record(&self, answer: &Answer) -> Vec<u8> {
+        let two = |n: usize| u16::try_from(n).expect("a length too large for a record").to_be_bytes();
+        let (left, lent) = (&answer.left, &self.tables);
+        let coils = left.coils != lent[COILS].bytes;
+        let holdings = left.holdings != lent[HOLDINGS].bytes;
+        let mut r = vec![self.transport, self.unit, self.list.len() as u8];
+        r.extend([u8::from(answer.difference.is_some()), answer.outcome, answer.code]);
+        r.extend([self.frame.len(), self.room, left.reply.len()].map(two).concat());
+        r.push(u8::from(coils) + 2 * u8::from(holdings));
+        for table in lent {
+            r.extend((table.cells as u32).to_be_bytes());
+            r.extend((table.bytes.len() as u32).to_be_bytes());
+        }
+        r.extend(&self.list);
+        r.extend(&self.frame);
+        for table in lent {
+            r.extend(&table.bytes);
+        }
+        r.extend(&left.reply);
+        if coils {
+            r.extend(&left.coils);
+        }
+        if holdings {
+            r.extend(&left.holdings);
+        }
+        r
+    }
+}
+
+impl std::fmt::Display for Call {
+    fn fmt(&self, f: &mut std::fmt::Formatter<'_>) -> std::fmt::Result {
+        let cells = self.tables.clone().map(|t| t.cells);
+        write!(f, "transport {} unit {} list {:?} cells {cells:?} ", self.transport, self.unit, self.list)?;
+        write!(f, "room {} frame {:02X?}", self.room, self.frame)
+    }
+}

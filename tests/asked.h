@@ -1,0 +1,86 @@
+/* One call of dalonjang_drive as a record, for the programs that test it. Built with -DFAULT=1 to 6 the library's
+ * answer is made slightly wrong on its way back, to show that a program sees it. */
+#ifndef ASKED_H
+#define ASKED_H
+#include "../include/dalonjang.h"
+
+#ifndef FAULT
+#define FAULT 0
+#endif
+
+enum { COILS, DISCRETES, HOLDINGS, INPUTS, TABLES };
+
+struct slice {
+    uint8_t *bytes;
+    size_t len;
+};
+
+struct asked {
+    uint8_t transport, unit;
+    struct slice list, table[TABLES], frame, reply;
+    size_t cells[TABLES];
+};
+
+/* Document 01's driver, written plainly (model.c). */
+struct dalonjang_result model_drive(const struct asked *a);
+uint16_t model_crc(const uint8_t *bytes, size_t n);
+
+static inline size_t word(const uint8_t *bytes) { return (size_t)bytes[0] << 8 | bytes[1]; }
+
+/* The reply of a served write, on TCP. */
+static inline struct dalonjang_result echoed(const struct asked *a) {
+    for (size_t i = 0; i < 12; i++) a->reply.bytes[i] = a->frame.bytes[i];
+    a->reply.bytes[5] = 6;
+    return (struct dalonjang_result){12, DALONJANG_ANSWERED, 0};
+}
+
+/* The answer as a slightly wrong driver would give it; fault 3 on RTU, the others on TCP. */
+static inline struct dalonjang_result spoilt(const struct asked *a, struct dalonjang_result r) {
+    if (FAULT == 0 || a->transport != (FAULT == 3 ? DALONJANG_RTU : DALONJANG_TCP) || a->frame.len < 4
+        || (FAULT != 3 && a->frame.len < 12)) return r;
+    const uint8_t *body = a->frame.bytes + (FAULT == 3 ? 0 : 6);
+    size_t function = body[1], start = word(body + 2), count = FAULT == 3 ? 0 : word(body + 4);
+    uint8_t *reply = a->reply.bytes;
+    switch (FAULT) {
+    case 1: /* the coils before the first one in its byte are lost */
+        if (r.outcome <= DALONJANG_BROADCAST_DONE && function == 15)
+            a->table[COILS].bytes[start / 8] &= (uint8_t)(0xFF << start % 8);
+        break;
+    case 2: /* 65,535 + 1 wraps to 0, which is within the table */
+        if (r.outcome == DALONJANG_EXCEPTION && r.code == DALONJANG_ILLEGAL_DATA_ADDRESS && start == 65535
+            && (count == 1 || function == 5 || function == 6)) r = echoed(a);
+        break;
+    case 3: /* an unknown function is answered before the check, as in the crate */
+        if (r.outcome == DALONJANG_FRAME_CHECK && body[0] == a->unit && function > 6 && function < 15) {
+            reply[0] = a->unit, reply[1] = (uint8_t)(function + 128), reply[2] = DALONJANG_ILLEGAL_FUNCTION;
+            uint16_t crc = model_crc(reply, 3);
+            reply[3] = (uint8_t)crc, reply[4] = (uint8_t)(crc >> 8);
+            r = (struct dalonjang_result){5, DALONJANG_EXCEPTION, DALONJANG_ILLEGAL_FUNCTION};
+        }
+        break;
+    case 4: /* function 16 stores what its byte count says, whatever its count, as in the crate */
+        if (r.outcome == DALONJANG_EXCEPTION && r.code == DALONJANG_ILLEGAL_DATA_VALUE && function == 16 && count >= 1
+            && count <= 123 && body[6] % 2 == 0 && start + body[6] / 2u <= a->cells[HOLDINGS]) {
+            for (size_t i = 0; i < body[6]; i++) a->table[HOLDINGS].bytes[2 * start + i] = body[7 + i];
+            r = echoed(a);
+        }
+        break;
+    case 5: /* the reply is one byte longer */
+        if (r.outcome == DALONJANG_ANSWERED) r.length++;
+        break;
+    case 6: /* a broadcast is answered */
+        if (r.outcome == DALONJANG_BROADCAST_DONE) r = echoed(a);
+        break;
+    default: break;
+    }
+    return r;
+}
+
+static inline struct dalonjang_result drive(const struct asked *a) {
+    const struct slice *t = a->table;
+    return spoilt(a, dalonjang_drive(a->transport, a->unit, a->list.bytes, a->list.len,
+        t[COILS].bytes, t[COILS].len, a->cells[COILS], t[DISCRETES].bytes, t[DISCRETES].len, a->cells[DISCRETES],
+        t[HOLDINGS].bytes, t[HOLDINGS].len, a->cells[HOLDINGS], t[INPUTS].bytes, t[INPUTS].len, a->cells[INPUTS],
+        a->frame.bytes, a->frame.len, a->reply.bytes, a->reply.len));
+}
+#endif

@@ -1,0 +1,37 @@
+/* Lent buffers between pages that cannot be touched: each ends at one, or, every fifth time, begins after one; the
+ * bytes on the free side must stay as they were. */
+#ifndef FENCE_H
+#define FENCE_H
+#include <stdint.h>
+#include <stdio.h>
+#include <stdlib.h>
+#include <string.h>
+#include <sys/mman.h>
+
+#define ROOM 262144 /* more than a call is lent; whole pages on every kind of machine */
+#define MARGIN 64   /* bytes looked at on the free side */
+#define UNTOUCHED 0xC3
+
+/* ROOM bytes between two pages that cannot be touched. */
+static inline uint8_t *fenced(void) {
+    uint8_t *p = mmap(NULL, 3 * ROOM, PROT_NONE, MAP_PRIVATE | MAP_ANONYMOUS, -1, 0);
+    if (p == MAP_FAILED || mprotect(p + ROOM, ROOM, PROT_READ | PROT_WRITE) != 0) {
+        fputs("no memory\n", stderr);
+        exit(2);
+    }
+    return memset(p + ROOM, UNTOUCHED, ROOM);
+}
+
+static inline int at_the_start(unsigned long number) { return number % 5 == 4; }
+
+static inline uint8_t *place(uint8_t *room, size_t len, unsigned long number) {
+    return at_the_start(number) ? room : room + ROOM - len;
+}
+
+static inline int margin_untouched(const uint8_t *placed, size_t len, unsigned long number) {
+    static uint8_t untouched[MARGIN];
+    if (untouched[0] == 0) memset(untouched, UNTOUCHED, MARGIN);
+    size_t width = len + MARGIN <= ROOM ? MARGIN : ROOM - len;
+    return memcmp(at_the_start(number) ? placed + len : placed - width, untouched, width) == 0;
+}
+#endif

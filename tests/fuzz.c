@@ -1,0 +1,290 @@
+/* fuzz [N [SEED]]: N random calls of dalonjang_drive (1,000,000 if not said): setups on both sides of every limit,
+ * frames built right and then damaged, and plain noise. After each call it is checked
+ *   - that nothing outside the lent buffers was touched: every buffer stands against a page that cannot be,
+ *   - what the header promises of every call, without asking what the right answer is,
+ *   - that outcome, code, reply and tables are those of the model, document 01's driver written plainly.
+ * Status: 0 all right and, from 100,000 calls on, every outcome came up; 1 a difference; 2 wrong arguments. */
+#include "asked.h"
+#include "fence.h"
+#include <signal.h>
+#include <unistd.h>
+
+enum { LIST = TABLES, FRAME, REPLY, BUFFERS, OUTCOMES = 11, SHOWN = 64 /* bytes of a buffer that are printed */ };
+
+static const char *const outcome_name[OUTCOMES] = {"answered", "broadcast done", "exception", "broadcast ignored",
+    "foreign", "frame broken", "frame check", "wrong length", "bad function", "no room", "bad setup"};
+static const char *const buffer_name[BUFFERS] = {"coils", "discretes", "holdings", "inputs", "list", "frame", "reply"};
+
+static struct asked call; /* as given to the library, in fenced rooms */
+static uint8_t *room[BUFFERS], before[BUFFERS][ROOM], expected[BUFFERS][ROOM];
+static uint8_t body[600]; /* the request from the unit byte on, before the check is made */
+static size_t body_len;
+static unsigned long number, seed = 1;
+static uint64_t chance_state;
+
+static struct slice *buffer(struct asked *a, int i) {
+    return i < TABLES ? &a->table[i] : i == LIST ? &a->list : i == FRAME ? &a->frame : &a->reply;
+}
+
+/* --- chance --------------------------------------------------------------------------------------------------- */
+
+static uint64_t chance(void) { /* splitmix64 */
+    uint64_t z = chance_state += 0x9E3779B97F4A7C15u;
+    z = (z ^ z >> 30) * 0xBF58476D1CE4E5B9u;
+    z = (z ^ z >> 27) * 0x94D049BB133111EBu;
+    return z ^ z >> 31;
+}
+
+static size_t below(size_t n) { return (size_t)(chance() % n); }
+static int percent(size_t n) { return below(100) < n; }
+static size_t near(size_t n, size_t reach) { size_t x = n + below(2 * reach + 1); return x < reach ? 0 : x - reach; }
+#define PICK(...) ((const size_t[]){__VA_ARGS__}[below(sizeof((const size_t[]){__VA_ARGS__}) / sizeof(size_t))])
+
+/* A lent buffer of so many bytes, in its room, of random content. */
+static void lend(int which, size_t len) {
+    struct slice *s = buffer(&call, which);
+    *s = (struct slice){place(room[which], len, number), len};
+    uint8_t even = (uint8_t)PICK(0, 255);
+    if (percent(30)) {
+        memset(s->bytes, even, len);
+        return;
+    }
+    for (size_t i = 0; i < len; i += 8) {
+        uint64_t eight = chance();
+        memcpy(s->bytes + i, &eight, len - i < 8 ? len - i : 8);
+    }
+}
+
+/* --- setups --------------------------------------------------------------------------------------------------- */
+
+static void random_setup(void) {
+    call.transport = (uint8_t)(percent(1) ? PICK(3, 4, 128, 255) : below(3));
+    call.unit = (uint8_t)(percent(60) ? 1 : chance());
+    for (int t = 0; t < TABLES; t++) {
+        int bits = t == COILS || t == DISCRETES, large = below(bits ? 500 : 4000) == 0;
+        size_t cells = large ? near(65535, 1) : percent(20) ? PICK(125, 126, 1968, 1969, 2000, 2001, 2007) : below(140);
+        if (below(600) == 0) cells = 65537;
+        size_t need = bits ? (cells + 7) / 8 : 2 * cells;
+        call.cells[t] = below(600) != 0 ? cells : PICK(65537, SIZE_MAX, SIZE_MAX / 2 + 1); /* in a short slice */
+        lend(t, percent(70) ? need : below(300) == 0 && need > 0 ? need - 1 : need + below(4));
+    }
+    lend(LIST, percent(50) ? 1 : below(4));
+    for (size_t i = 0; i < call.list.len; i++)
+        call.list.bytes[i] = (uint8_t)(percent(70) ? 0 : percent(10) ? call.unit : chance());
+    size_t wanted = call.transport == DALONJANG_ASCII ? 511 : 260;
+    lend(REPLY, percent(2) ? wanted - 1 - (percent(30) ? below(wanted) : 0) : wanted + (percent(30) ? below(300) : 0));
+}
+
+/* --- frames --------------------------------------------------------------------------------------------------- */
+
+static void put_word(size_t value) {
+    body[body_len++] = (uint8_t)(value >> 8);
+    body[body_len++] = (uint8_t)value;
+}
+
+/* A request, mostly within its table and its limits, often just at them. */
+static void random_body(void) {
+    static const uint8_t table_of[17] = {0, COILS, DISCRETES, HOLDINGS, INPUTS, COILS, HOLDINGS, 0, 0, 0, 0, 0, 0, 0, 0,
+                                         COILS, HOLDINGS};
+    size_t function = percent(92) ? PICK(1, 2, 3, 4, 5, 6, 15, 15, 16, 16)
+                      : percent(60) ? PICK(0, 7, 14, 17, 43, 127, 128, 255) : below(256);
+    size_t most = function <= 2 ? 2000 : function <= 4 ? 125 : function == 15 ? 1968 : 123;
+    size_t cells = call.cells[function <= 16 ? table_of[function] : 0];
+    if (cells > 65536) cells = 65536;
+    size_t count = percent(80) ? 1 + below(cells < most ? cells + 1 : most)
+                   : percent(50) ? PICK(0, most, most + 1) : below(65536);
+    size_t extent = function == 5 || function == 6 ? 1 : count, last = cells > extent ? cells - extent : 0;
+    size_t start = percent(70) ? below(last + 1) : percent(60) ? near(last, 1)
+                   : percent(50) ? near(65536 - extent, 1) : below(65536);
+    if (function == 5) count = percent(90) ? PICK(0, 0xFF00) : PICK(1, 0xFF01, 0xFEFF, 0xFE00, 0x0100, 0x00FF);
+    if (function == 6) count = chance();
+    body_len = 0;
+    int listed = call.list.len > 0 && percent(90);
+    body[body_len++] = (uint8_t)(percent(85) ? call.unit : listed ? call.list.bytes[0] : chance());
+    body[body_len++] = (uint8_t)function;
+    put_word(start);
+    put_word(count);
+    if (function != 15 && function != 16) return;
+    size_t bytes = function == 15 ? (count + 7) / 8 : 2 * count;
+    if (percent(6)) bytes = percent(60) ? near(bytes, 2) : below(256);
+    if (bytes > 255) bytes = 255;
+    body[body_len++] = (uint8_t)bytes;
+    for (size_t i = 0; i < bytes; i++) body[body_len++] = (uint8_t)chance();
+}
+
+/* Body or frame cut, lengthened, or one bit turned. */
+static void damage(uint8_t *bytes, size_t *len) {
+    switch (below(4)) {
+    case 0: *len = below(*len + 1); break;
+    case 1: for (size_t more = 1 + below(4); more-- > 0;) bytes[(*len)++] = (uint8_t)chance(); break;
+    case 2: *len += *len % 2 + (percent(20) ? below(250) : 0); break; /* whatever stands there */
+    default: if (*len > 0) bytes[below(*len)] ^= (uint8_t)(1 << below(8)); break;
+    }
+}
+
+/* The body as a frame of the transport; answers its length. */
+static size_t sent(uint8_t *f) {
+    static const char digits[] = "0123456789ABCDEF";
+    uint8_t sum = 0;
+    size_t n = 0;
+    switch (call.transport) {
+    case DALONJANG_ASCII:
+        f[n++] = ':';
+        for (size_t i = 0; i <= body_len; i++) {
+            uint8_t byte = i < body_len ? body[i] : (uint8_t)-sum;
+            sum = (uint8_t)(sum + byte);
+            f[n++] = (uint8_t)digits[byte >> 4], f[n++] = (uint8_t)digits[byte & 15];
+        }
+        f[n++] = '\r', f[n++] = '\n';
+        return n;
+    case DALONJANG_TCP:
+        f[0] = (uint8_t)chance(), f[1] = (uint8_t)chance(), f[2] = f[3] = 0;
+        f[4] = (uint8_t)(body_len >> 8), f[5] = (uint8_t)body_len;
+        memcpy(f + 6, body, body_len);
+        return body_len + 6;
+    default:
+        memcpy(f, body, body_len);
+        uint16_t crc = model_crc(body, body_len);
+        f[body_len] = (uint8_t)crc, f[body_len + 1] = (uint8_t)(crc >> 8);
+        return body_len + 2;
+    }
+}
+
+static void random_frame(void) {
+    static uint8_t f[2048];
+    size_t n;
+    memset(body, 0, sizeof body);
+    if (percent(3)) { /* noise */
+        n = below(percent(80) ? 20 : 600);
+        for (size_t i = 0; i < n; i++)
+            f[i] = percent(50) ? (uint8_t)chance() : (uint8_t)":\r\n0123456789ABCDEFa"[below(20)];
+    } else {
+        random_body();
+        if (percent(8)) damage(body, &body_len); /* the check is made afterwards, and is right */
+        n = sent(f);
+        if (percent(8)) damage(f, &n);
+        if (percent(1) && n > 9) memcpy(f + n - 3, (const char *[]){"\n\r0", "a\r\n", "\r\n\0"}[below(3)], 3);
+    }
+    lend(FRAME, n);
+    memcpy(call.frame.bytes, f, n);
+}
+
+/* --- what must hold -------------------------------------------------------------------------------------------- */
+
+static void show(const char *name, const uint8_t *bytes, size_t len) {
+    printf("\n  %-10s", name);
+    for (size_t i = 0; i < len && i < SHOWN; i++) printf(" %02X", bytes[i]);
+    if (len > SHOWN) printf(" ..");
+}
+
+static void different(const char *what, const struct dalonjang_result *r) {
+    printf("different at call %lu (seed %lu): %s\n  transport %u, unit %u, cells %zu %zu %zu %zu", number, seed, what,
+           call.transport, call.unit, call.cells[0], call.cells[1], call.cells[2], call.cells[3]);
+    if (r != NULL) printf("; outcome %u, code %u, length %zu", r->outcome, r->code, r->length);
+    for (int i = 0; i < BUFFERS; i++) {
+        show(buffer_name[i], before[i], buffer(&call, i)->len);
+        if (r != NULL) show("  after", buffer(&call, i)->bytes, buffer(&call, i)->len);
+    }
+    puts("");
+    fflush(stdout);
+    _exit(1);
+}
+
+static void touched_a_fence(int signal_number) {
+    (void)signal_number;
+    different("a byte outside the lent buffers was touched", NULL);
+}
+
+/* What the request in a served frame writes: a table, -1 for none, and the bits of it that may change. */
+static int written(size_t *from, size_t *to) {
+    uint8_t b[6];
+    char pair[3] = {0};
+    for (size_t i = 0; i < 6; i++)
+        if (call.transport != DALONJANG_ASCII) b[i] = before[FRAME][i + (call.transport == DALONJANG_TCP ? 6 : 0)];
+        else b[i] = (uint8_t)strtoul(memcpy(pair, before[FRAME] + 1 + 2 * i, 2), NULL, 16);
+    size_t width = b[1] == 5 || b[1] == 15 ? 1 : 16, count = b[1] <= 6 ? 1 : word(b + 4);
+    *from = word(b + 2) * width;
+    *to = *from + count * width;
+    return b[1] <= 4 ? -1 : width == 1 ? COILS : HOLDINGS;
+}
+
+/* No bit of this table changed but those from `from` on and before `to`; in registers the bytes are whole. */
+static int kept(int table, size_t from, size_t to) {
+    const uint8_t *old = before[table], *new = call.table[table].bytes;
+    size_t len = call.table[table].len;
+    if (to > 8 * len || memcmp(old, new, from / 8) != 0) return 0;
+    for (size_t i = from / 8; i < len && i <= to / 8; i++)
+        for (size_t k = 0; k < 8; k++)
+            if ((8 * i + k < from || 8 * i + k >= to) && (old[i] ^ new[i]) >> k & 1) return 0;
+    return to / 8 + 1 >= len || memcmp(old + to / 8 + 1, new + to / 8 + 1, len - to / 8 - 1) == 0;
+}
+
+/* What the header promises of every call. */
+static const char *broken_promise(struct dalonjang_result r) {
+    int done = r.outcome == DALONJANG_ANSWERED || r.outcome == DALONJANG_BROADCAST_DONE;
+    int replied = r.outcome == DALONJANG_ANSWERED || r.outcome == DALONJANG_EXCEPTION, table = -1;
+    int coded = r.outcome == DALONJANG_EXCEPTION || r.outcome == DALONJANG_BROADCAST_IGNORED;
+    size_t from = 0, to = 0;
+    for (int i = 0; i < BUFFERS; i++)
+        if (!margin_untouched(buffer(&call, i)->bytes, buffer(&call, i)->len, number))
+            return "bytes beside a lent buffer changed";
+    if (r.outcome >= OUTCOMES) return "no such outcome";
+    if (replied ? r.length == 0 || r.length > call.reply.len : r.length != 0) return "a length that cannot be";
+    if (coded ? r.code > 3 || (r.code == 0 && replied) : r.code != 0) return "a code that cannot be";
+    if (memcmp(call.reply.bytes + r.length, before[REPLY] + r.length, call.reply.len - r.length) != 0)
+        return "reply bytes after its length changed";
+    if (done) table = written(&from, &to);
+    for (int i = 0; i < REPLY; i++)
+        if (i != table && memcmp(buffer(&call, i)->bytes, before[i], buffer(&call, i)->len) != 0)
+            return "a buffer changed that must not";
+    if (table >= 0 && !kept(table, from, to)) return "a cell, spare bit or spare byte outside the range changed";
+    return NULL;
+}
+
+static void check(struct dalonjang_result r) {
+    const char *broken = broken_promise(r);
+    if (broken != NULL) different(broken, &r);
+    struct asked a = call;
+    for (int i = 0; i < BUFFERS; i++) buffer(&a, i)->bytes = memcpy(expected[i], before[i], buffer(&a, i)->len);
+    struct dalonjang_result e = model_drive(&a);
+    if (r.outcome != e.outcome || r.code != e.code || r.length != e.length) {
+        printf("model: outcome %u, code %u, length %zu\n", e.outcome, e.code, e.length);
+        different("not the model's answer", &r);
+    }
+    for (int i = 0; i < BUFFERS; i++)
+        if (memcmp(expected[i], buffer(&call, i)->bytes, buffer(&call, i)->len) != 0) {
+            show("model's", expected[i], buffer(&call, i)->len);
+            printf("\n%s: ", buffer_name[i]);
+            different("not the model's bytes", &r);
+        }
+}
+
+int main(int argc, char **argv) {
+    unsigned long calls = argc > 1 ? strtoul(argv[1], NULL, 10) : 1000000, count[OUTCOMES] = {0};
+    if (argc > 2) seed = strtoul(argv[2], NULL, 10);
+    if (calls == 0 || argc > 3) {
+        fputs("usage: fuzz [N [SEED]]\n", stderr);
+        return 2;
+    }
+    chance_state = seed;
+    signal(SIGSEGV, touched_a_fence);
+    for (int i = 0; i < BUFFERS; i++) room[i] = fenced();
+    for (number = 0; number < calls; number++) {
+        random_setup();
+        random_frame();
+        for (int i = 0; i < BUFFERS; i++) memcpy(before[i], buffer(&call, i)->bytes, buffer(&call, i)->len);
+        struct dalonjang_result r = drive(&call);
+        check(r);
+        count[r.outcome]++;
+        for (int i = 0; i < BUFFERS; i++) memset(buffer(&call, i)->bytes, UNTOUCHED, buffer(&call, i)->len);
+    }
+    printf("%lu calls, all as model and header say:", calls);
+    for (int o = 0; o < OUTCOMES; o++) printf("%s %s %lu", o == 0 ? "" : ",", outcome_name[o], count[o]);
+    puts("");
+    for (int o = 0; o < OUTCOMES; o++)
+        if (count[o] == 0 && calls >= 100000) {
+            printf("the outcome \"%s\" never came up\n", outcome_name[o]);
+            return 1;
+        }
+    return 0;
+}

@@ -1,0 +1,148 @@
+/* Document 01's driver, written from the page and from nothing else: one bit or byte at a time, no cleverness. The fuzz
+ * compares the proved library with it. */
+#include "asked.h"
+#include <string.h>
+
+typedef struct dalonjang_result result;
+
+uint16_t model_crc(const uint8_t *bytes, size_t n) {
+    unsigned crc = 0xFFFF;
+    for (size_t i = 0; i < n; i++) {
+        crc ^= bytes[i];
+        for (int k = 0; k < 8; k++) crc = crc % 2 == 1 ? crc / 2 ^ 0xA001 : crc / 2;
+    }
+    return (uint16_t)crc;
+}
+
+static int digit(uint8_t c) {
+    const char *digits = "0123456789ABCDEF", *at = c == 0 ? NULL : strchr(digits, c);
+    return at == NULL ? -1 : (int)(at - digits);
+}
+
+static int sum(const uint8_t *bytes, size_t n) {
+    int total = 0;
+    for (size_t i = 0; i < n; i++) total += bytes[i];
+    return total % 256;
+}
+
+/* The frame's bytes from the unit on, without check, go to body. 0: right, else the outcome. */
+static int unwrap(const struct asked *a, uint8_t *body, size_t *n) {
+    const uint8_t *f = a->frame.bytes;
+    size_t len = a->frame.len;
+    switch (a->transport) {
+    case 0:
+        if (len < 4 || len > 256) return 5;
+        *n = len - 2;
+        memcpy(body, f, *n);
+        return model_crc(f, *n) == f[len - 1] * 256 + f[len - 2] ? 0 : 6;
+    case 1:
+        if (len < 1 + 6 + 2 || len > 1 + 508 + 2 || len % 2 == 0) return 5;
+        if (f[0] != ':' || f[len - 2] != '\r' || f[len - 1] != '\n') return 5;
+        for (size_t i = 1; i < len - 2; i++)
+            if (digit(f[i]) < 0) return 5;
+        for (size_t i = 0; i < (len - 3) / 2; i++) body[i] = (uint8_t)(16 * digit(f[2 * i + 1]) + digit(f[2 * i + 2]));
+        *n = (len - 3) / 2 - 1;
+        return sum(body, *n + 1) == 0 ? 0 : 6;
+    default:
+        if (len < 12 || len > 256 || f[2] != 0 || f[3] != 0 || word(f + 4) != len - 6) return 5;
+        *n = len - 6;
+        memcpy(body, f + 6, *n);
+        return 0;
+    }
+}
+
+/* Puts header and check around the reply; answers its length. */
+static size_t wrap(const struct asked *a, const uint8_t *body, size_t n) {
+    uint8_t *r = a->reply.bytes;
+    switch (a->transport) {
+    case 0:
+        memcpy(r, body, n);
+        r[n] = (uint8_t)(model_crc(body, n) % 256), r[n + 1] = (uint8_t)(model_crc(body, n) / 256);
+        return n + 2;
+    case 1:
+        r[0] = ':';
+        for (size_t i = 0; i <= n; i++) {
+            int byte = i < n ? body[i] : (256 - sum(body, n)) % 256;
+            r[2 * i + 1] = (uint8_t)"0123456789ABCDEF"[byte / 16];
+            r[2 * i + 2] = (uint8_t)"0123456789ABCDEF"[byte % 16];
+        }
+        memcpy(r + 2 * n + 3, "\r\n", 2);
+        return 2 * n + 5;
+    default:
+        r[0] = a->frame.bytes[0], r[1] = a->frame.bytes[1], r[2] = 0, r[3] = 0;
+        r[4] = (uint8_t)(n / 256), r[5] = (uint8_t)(n % 256);
+        memcpy(r + 6, body, n);
+        return n + 6;
+    }
+}
+
+static int bit(const uint8_t *table, size_t cell) { return table[cell / 8] >> cell % 8 & 1; }
+
+static void set_bit(uint8_t *table, size_t cell, int value) {
+    if (bit(table, cell) != value) table[cell / 8] ^= (uint8_t)(1 << cell % 8);
+}
+
+static int table_of(uint8_t f) { /* -1: the function is not served */
+    return f == 1 || f == 5 || f == 15 ? COILS : f == 3 || f == 6 || f == 16 ? HOLDINGS : f == 2 ? DISCRETES
+           : f == 4 ? INPUTS : -1;
+}
+
+static int value_right(const uint8_t *b) {
+    size_t count = word(b + 4);
+    switch (b[1]) {
+    case 1: case 2: return count >= 1 && count <= 2000;
+    case 3: case 4: return count >= 1 && count <= 125;
+    case 5: return count == 0xFF00 || count == 0;
+    case 15: return count >= 1 && count <= 1968 && b[6] == (count + 7) / 8;
+    case 16: return count >= 1 && count <= 123 && b[6] == 2 * count;
+    default: return 1;
+    }
+}
+
+/* Serves a right request and writes the reply's bytes from the unit on; answers how many. */
+static size_t serve(const struct asked *a, int tab, const uint8_t *b, uint8_t *r) {
+    uint8_t *table = a->table[tab].bytes;
+    size_t start = word(b + 2), count = word(b + 4), bytes = b[1] <= 2 ? (count + 7) / 8 : 2 * count;
+    memcpy(r, b, 6);
+    if (b[1] <= 4) r[2] = (uint8_t)bytes;
+    switch (b[1]) {
+    case 1: case 2:
+        memset(r + 3, 0, bytes); /* pad bits zero */
+        for (size_t i = 0; i < count; i++) set_bit(r + 3, i, bit(table, start + i));
+        return 3 + bytes;
+    case 3: case 4: memcpy(r + 3, table + 2 * start, bytes); return 3 + bytes;
+    case 5: set_bit(table, start, count != 0); return 6;
+    case 6: memcpy(table + 2 * start, b + 4, 2); return 6;
+    case 15:
+        for (size_t i = 0; i < count; i++) set_bit(table, start + i, bit(b + 7, i));
+        return 6;
+    default: memcpy(table + 2 * start, b + 7, bytes); return 6;
+    }
+}
+
+result model_drive(const struct asked *a) {
+    uint8_t b[256], r[256];
+    size_t n = 0;
+    if (a->transport > 2) return (result){0, 10, 0};
+    for (int t = 0; t < TABLES; t++) {
+        int bits = t == COILS || t == DISCRETES;
+        if (a->cells[t] > 65536 || a->table[t].len < (bits ? (a->cells[t] + 7) / 8 : 2 * a->cells[t]))
+            return (result){0, 10, 0};
+    }
+    if (a->reply.len < (a->transport == 1 ? 511 : 260)) return (result){0, 9, 0};
+    int wrong = unwrap(a, b, &n);
+    if (wrong) return (result){0, (uint8_t)wrong, 0};
+    int broadcast = a->list.len > 0 && memchr(a->list.bytes, b[0], a->list.len) != NULL;
+    if (!broadcast && b[0] != a->unit) return (result){0, 4, 0};
+    if (b[1] >= 128) return (result){0, 8, 0};
+    int code = 0, tab = table_of(b[1]);
+    if (tab < 0) code = 1;
+    else if (broadcast && b[1] <= 4) return (result){0, 3, 0};
+    else if (b[1] <= 6 ? n != 6 : n < 7 || n != 7u + b[6]) return (result){0, 7, 0};
+    else if (!value_right(b)) code = 3;
+    else if (word(b + 2) + (b[1] == 5 || b[1] == 6 ? 1 : word(b + 4)) > a->cells[tab]) code = 2;
+    if (code && broadcast) return (result){0, 3, (uint8_t)code};
+    if (code) return (result){wrap(a, (uint8_t[]){b[0], (uint8_t)(b[1] + 128), (uint8_t)code}, 3), 2, (uint8_t)code};
+    n = serve(a, tab, b, r);
+    return broadcast ? (result){0, 1, 0} : (result){wrap(a, r, n), 0, 0};
+}
