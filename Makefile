@@ -17,7 +17,7 @@ prove:
 
 # the static library for firmware
 lib:
-	@rt staticlib dalonjang >target/lib.log 2>&1 || { cat target/lib.log >&2; exit 1; }
+	@mkdir -p out && rt staticlib dalonjang >out/lib.log 2>&1 || { cat out/lib.log >&2; exit 1; }
 	@echo 'target/staticlib/libdalonjang.a, with include/dalonjang.h'
 
 serve:

@@ -11,7 +11,8 @@
  *   The calls cannot see an overlap and do not refuse it.
  * State. There is none: no allocation, no static data, no input or output. Every call is reentrant and may run in any
  *   thread or interrupt, as long as nobody else uses the lent buffers meanwhile.
- * Stack. At most 2 KiB for a call (the most measured is 1,944 bytes, an ASCII reply of 511 bytes); no recursion.
+ * Stack. Leave 2 KiB for a call: the most measured is 1,944 bytes, for an ASCII reply of 511 bytes. No recursion.
+ * Linking. The library is for x86-64 and takes one function from outside, memcpy.
  * Every input is answered: a call never crashes, loops or needs anything of its arguments but the above.
  *
  * The rules are those of document 01; its numbers stand in the enumerators below.

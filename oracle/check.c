@@ -5,22 +5,14 @@
  * Status: 0 all equal and at least N calls, 1 a difference, 2 a short or malformed stream.
  * Built with -DFAULT=1 to 23 that call is answered slightly wrong, to show that a difference is seen. */
 #include "../include/dalonjang.h"
+#include "../tests/fence.h"
 #include "probe.h"
-#include <signal.h>
-#include <stdio.h>
-#include <stdlib.h>
-#include <string.h>
-#include <sys/mman.h>
-#include <unistd.h>
+#include "stream.h"
 
 #ifndef FAULT
 #define FAULT 0
 #endif
-#define ROOM 262144 /* more than a record asks for; whole pages on every kind of machine */
-#define MARGIN 64   /* bytes looked at on the free side */
-#define UNTOUCHED 0xC3
-#define SHOWN 1024 /* bytes of a slice that are printed */
-#define CALLS 24   /* one more than the last call number */
+#define CALLS 24 /* one more than the last call number */
 
 _Static_assert(sizeof(size_t) == 8 && sizeof(struct probe_answer) == 16, "x86-64");
 
@@ -42,37 +34,6 @@ static struct record {
     uint8_t buffer[ROOM], written[ROOM]; /* buffer and table as expected */
 } record;
 static unsigned long number; /* of the record, from 0 */
-
-/* ROOM bytes between two pages that cannot be touched. */
-static uint8_t *fenced(void) {
-    uint8_t *p = mmap(NULL, 3 * ROOM, PROT_NONE, MAP_PRIVATE | MAP_ANONYMOUS, -1, 0);
-    if (p == MAP_FAILED || mprotect(p + ROOM, ROOM, PROT_READ | PROT_WRITE) != 0) {
-        fputs("check: no memory\n", stderr);
-        exit(2);
-    }
-    return memset(p + ROOM, UNTOUCHED, ROOM);
-}
-
-static int at_the_start(void) { return number % 5 == 4; }
-
-static uint8_t *place(uint8_t *room, size_t len) { return at_the_start() ? room : room + ROOM - len; }
-
-static int margin_untouched(const uint8_t *placed, size_t len) {
-    size_t width = len + MARGIN <= ROOM ? MARGIN : ROOM - len;
-    const uint8_t *margin = at_the_start() ? placed + len : placed - width;
-    for (size_t i = 0; i < width; i++)
-        if (margin[i] != UNTOUCHED) return 0;
-    return 1;
-}
-
-/* Buffer and response before the call. */
-static uint8_t as_lent(size_t i) { return (uint8_t)(0x5A + i); }
-
-static size_t big_endian(const uint8_t *b, int width) {
-    size_t n = 0;
-    while (width-- > 0) n = n << 8 | *b++;
-    return n;
-}
 
 static int got_bytes(uint8_t *bytes, size_t len) { return len <= ROOM && fread(bytes, 1, len, stdin) == len; }
 
@@ -246,12 +207,6 @@ static struct probe_answer spoilt(const uint8_t *input, uint8_t *buffer, uint8_t
     return a;
 }
 
-static void print_bytes(const char *name, const uint8_t *bytes, size_t len) {
-    printf("\n  %s", name);
-    for (size_t i = 0; i < len && i < SHOWN; i++) printf(" %02X", bytes[i]);
-    if (len > SHOWN) printf(" ..");
-}
-
 static void print_after(const char *name, const uint8_t *expected, const uint8_t *given, size_t len) {
     size_t i = 0;
     while (i < len && expected[i] == given[i]) i++;
@@ -269,14 +224,6 @@ static void print_call(const char *what) {
     print_bytes("table", r->table, r->t);
 }
 
-static void touched_a_fence(int signal_number) {
-    (void)signal_number;
-    print_call("a byte outside the slices was touched");
-    puts("");
-    fflush(stdout);
-    _exit(1);
-}
-
 int main(int argc, char **argv) {
     static char stream[1 << 16];
     unsigned long wanted = argc == 2 ? strtoul(argv[1], NULL, 10) : 0, count[CALLS] = {0};
@@ -285,19 +232,19 @@ int main(int argc, char **argv) {
         return 2;
     }
     setvbuf(stdin, stream, _IOFBF, sizeof stream);
-    signal(SIGSEGV, touched_a_fence);
+    watch_fences(print_call);
     uint8_t *input_room = fenced(), *buffer_room = fenced(), *table_room = fenced();
     for (; next_record(); number++) {
-        uint8_t *input = place(input_room, record.n), *buffer = place(buffer_room, record.m);
-        uint8_t *table = place(table_room, record.t);
+        uint8_t *input = place(input_room, record.n, number), *buffer = place(buffer_room, record.m, number);
+        uint8_t *table = place(table_room, record.t, number);
         memcpy(input, record.input, record.n);
         memcpy(table, record.table, record.t);
         for (size_t i = 0; i < record.m; i++) buffer[i] = as_lent(i);
         struct probe_answer a = spoilt(input, buffer, table, ask(input, buffer, table));
         if (a.kind != record.kind || a.value != record.value || memcmp(input, record.input, record.n) != 0
             || memcmp(buffer, record.buffer, record.m) != 0 || memcmp(table, record.written, record.t) != 0
-            || !margin_untouched(input, record.n) || !margin_untouched(buffer, record.m)
-            || !margin_untouched(table, record.t)) {
+            || !margin_untouched(input, record.n, number) || !margin_untouched(buffer, record.m, number)
+            || !margin_untouched(table, record.t, number)) {
             print_call("different");
             printf("\n  expected: kind %u, value %zu; given: kind %u, value %zu", record.kind, record.value,
                    a.kind, a.value);

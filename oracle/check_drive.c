@@ -5,10 +5,9 @@
  * Built with -DFAULT=1 to 6 the library's answer is made slightly wrong (../tests/asked.h), to show that it is seen. */
 #include "../tests/asked.h"
 #include "../tests/fence.h"
-#include <signal.h>
-#include <unistd.h>
+#include "stream.h"
 
-enum { LIST = TABLES, FRAME, REPLY, BUFFERS, HEAD = 45, OUTCOMES = 9, SHOWN = 1024 /* bytes printed */ };
+enum { LIST = TABLES, FRAME, REPLY, BUFFERS, HEAD = 45, OUTCOMES = 9 };
 
 static const char *const outcome_name[OUTCOMES] = {"answered", "broadcast done", "exception", "broadcast ignored",
     "foreign", "frame broken", "frame check", "wrong length", "bad function"};
@@ -21,15 +20,7 @@ static struct record {
 } record;
 static unsigned long number; /* of the record, from 0 */
 
-static size_t big_endian(const uint8_t *b, int width) {
-    size_t n = 0;
-    while (width-- > 0) n = n << 8 | *b++;
-    return n;
-}
-
 static int got_bytes(uint8_t *bytes, size_t len) { return len <= ROOM && fread(bytes, 1, len, stdin) == len; }
-
-static uint8_t as_lent(size_t i) { return (uint8_t)(0x5A + i); }
 
 /* The rest of a record, whose head this is. */
 static int rest_of(const uint8_t *head) {
@@ -64,12 +55,6 @@ static int next_record(void) {
     exit(2);
 }
 
-static void print_bytes(const char *name, const uint8_t *bytes, size_t len) {
-    printf("\n  %s", name);
-    for (size_t i = 0; i < len && i < SHOWN; i++) printf(" %02X", bytes[i]);
-    if (len > SHOWN) printf(" ..");
-}
-
 static void print_call(const char *what) {
     const struct record *r = &record;
     printf("%s at record %lu: transport %u, unit %u, cells %zu %zu %zu %zu", what, number, r->transport, r->unit,
@@ -77,14 +62,6 @@ static void print_call(const char *what) {
     for (int i = 0; i < REPLY; i++) print_bytes(buffer_name[i], r->before[i], r->len[i]);
     printf("\n  expected: outcome %u, code %u, reply of %zu bytes (%s)", r->outcome, r->code, r->reply_len,
            r->otherwise == 0 ? "the crate's" : "document 01's, not the crate's");
-}
-
-static void touched_a_fence(int signal_number) {
-    (void)signal_number;
-    print_call("a byte outside the slices was touched");
-    puts("");
-    fflush(stdout);
-    _exit(1);
 }
 
 static int equal(const struct slice *lent, struct dalonjang_result r) {
@@ -103,7 +80,7 @@ int main(int argc, char **argv) {
         return 2;
     }
     setvbuf(stdin, stream, _IOFBF, sizeof stream);
-    signal(SIGSEGV, touched_a_fence);
+    watch_fences(print_call);
     uint8_t *room[BUFFERS];
     for (int i = 0; i < BUFFERS; i++) room[i] = fenced();
     for (; next_record(); number++) {

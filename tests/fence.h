@@ -2,15 +2,18 @@
  * bytes on the free side must stay as they were. */
 #ifndef FENCE_H
 #define FENCE_H
+#include <signal.h>
 #include <stdint.h>
 #include <stdio.h>
 #include <stdlib.h>
 #include <string.h>
 #include <sys/mman.h>
+#include <unistd.h>
 
 #define ROOM 262144 /* more than a call is lent; whole pages on every kind of machine */
 #define MARGIN 64   /* bytes looked at on the free side */
 #define UNTOUCHED 0xC3
+#define SHOWN 256 /* bytes of a buffer that are printed */
 
 /* ROOM bytes between two pages that cannot be touched. */
 static inline uint8_t *fenced(void) {
@@ -33,5 +36,27 @@ static inline int margin_untouched(const uint8_t *placed, size_t len, unsigned l
     if (untouched[0] == 0) memset(untouched, UNTOUCHED, MARGIN);
     size_t width = len + MARGIN <= ROOM ? MARGIN : ROOM - len;
     return memcmp(at_the_start(number) ? placed + len : placed - width, untouched, width) == 0;
+}
+
+static void (*tell_of_a_touch)(const char *what);
+
+static inline void touched_a_fence(int signal_number) {
+    (void)signal_number;
+    tell_of_a_touch("a byte outside the lent buffers was touched");
+    puts("");
+    fflush(stdout);
+    _exit(1);
+}
+
+/* From now on, where a fence is touched, `tell` prints the call and the program ends with status 1. */
+static inline void watch_fences(void (*tell)(const char *what)) {
+    tell_of_a_touch = tell;
+    signal(SIGSEGV, touched_a_fence);
+}
+
+static inline void print_bytes(const char *name, const uint8_t *bytes, size_t len) {
+    printf("\n  %s", name);
+    for (size_t i = 0; i < len && i < SHOWN; i++) printf(" %02X", bytes[i]);
+    if (len > SHOWN) printf(" ..");
 }
 #endif

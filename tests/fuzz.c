@@ -6,10 +6,8 @@
  * Status: 0 all right and, from 100,000 calls on, every outcome came up; 1 a difference; 2 wrong arguments. */
 #include "asked.h"
 #include "fence.h"
-#include <signal.h>
-#include <unistd.h>
 
-enum { LIST = TABLES, FRAME, REPLY, BUFFERS, OUTCOMES = 11, SHOWN = 64 /* bytes of a buffer that are printed */ };
+enum { LIST = TABLES, FRAME, REPLY, BUFFERS, OUTCOMES = 11 };
 
 static const char *const outcome_name[OUTCOMES] = {"answered", "broadcast done", "exception", "broadcast ignored",
     "foreign", "frame broken", "frame check", "wrong length", "bad function", "no room", "bad setup"};
@@ -171,29 +169,20 @@ static void random_frame(void) {
 
 /* --- what must hold -------------------------------------------------------------------------------------------- */
 
-static void show(const char *name, const uint8_t *bytes, size_t len) {
-    printf("\n  %-10s", name);
-    for (size_t i = 0; i < len && i < SHOWN; i++) printf(" %02X", bytes[i]);
-    if (len > SHOWN) printf(" ..");
-}
-
 static void different(const char *what, const struct dalonjang_result *r) {
     printf("different at call %lu (seed %lu): %s\n  transport %u, unit %u, cells %zu %zu %zu %zu", number, seed, what,
            call.transport, call.unit, call.cells[0], call.cells[1], call.cells[2], call.cells[3]);
     if (r != NULL) printf("; outcome %u, code %u, length %zu", r->outcome, r->code, r->length);
     for (int i = 0; i < BUFFERS; i++) {
-        show(buffer_name[i], before[i], buffer(&call, i)->len);
-        if (r != NULL) show("  after", buffer(&call, i)->bytes, buffer(&call, i)->len);
+        print_bytes(buffer_name[i], before[i], buffer(&call, i)->len);
+        if (r != NULL) print_bytes("  after", buffer(&call, i)->bytes, buffer(&call, i)->len);
     }
     puts("");
     fflush(stdout);
     _exit(1);
 }
 
-static void touched_a_fence(int signal_number) {
-    (void)signal_number;
-    different("a byte outside the lent buffers was touched", NULL);
-}
+static void touched(const char *what) { different(what, NULL); }
 
 /* What the request in a served frame writes: a table, -1 for none, and the bits of it that may change. */
 static int written(size_t *from, size_t *to) {
@@ -253,7 +242,7 @@ static void check(struct dalonjang_result r) {
     }
     for (int i = 0; i < BUFFERS; i++)
         if (memcmp(expected[i], buffer(&call, i)->bytes, buffer(&call, i)->len) != 0) {
-            show("model's", expected[i], buffer(&call, i)->len);
+            print_bytes("model's", expected[i], buffer(&call, i)->len);
             printf("\n%s: ", buffer_name[i]);
             different("not the model's bytes", &r);
         }
@@ -267,7 +256,7 @@ int main(int argc, char **argv) {
         return 2;
     }
     chance_state = seed;
-    signal(SIGSEGV, touched_a_fence);
+    watch_fences(touched);
     for (int i = 0; i < BUFFERS; i++) room[i] = fenced();
     for (number = 0; number < calls; number++) {
         random_setup();
