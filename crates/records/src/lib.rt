@@ -3,10 +3,10 @@
 use libc::STDIN_FILENO;
 use libc::STDOUT_FILENO;
 use modbus::ByteAnswer;
-ghost use mathlib.Core.Bool.{false};
 ghost use mathlib.Core.Path.{_≡_};
 ghost use Prim.Native.Nat.{_≤_};
 ghost use lib.ListN.{length};
+ghost use Rattle.records.specs.Counted.{opening, tallied};
 
 // Where the reading stands: in the text that was read last, and in the line.
 pub struct Reading {
@@ -23,7 +23,7 @@ pub struct Reading {
 
 // Before anything is read.
 pub fn start() -> Reading
-    ensures { λ r. ⌜ (r .at ≡ 0) × (r .have ≡ 0) × (r .len ≡ 0) × (r .high ≡ 0) × (r .half ≡ false) × (r .broken ≡ false) × (r .comment ≡ false) × (r .whole ≡ false) × (r .ended ≡ false) ⌝ }
+    ensures { λ r. ⌜ r ≡ opening ⌝ }
 {
     Reading {
         at: 0,
@@ -156,6 +156,26 @@ pub fn next(text: &mut [u8], record: &mut [u8], s: Reading) -> Reading
         t = step(text, record, t);
     }
     t
+}
+
+// How many records were run, and how many of them were answered otherwise.
+pub struct Tally {
+    pub records: u64,
+    pub wrong: u64,
+}
+
+// One record more; where it was not right, it is named by its number.
+pub fn judged(t: Tally, right: bool) -> Tally
+    ensures { λ r. ⌜ r ≡ tallied t right ⌝ }
+{
+    let mut u = t;
+    u.records = std::num::wrapping_add_u64(t.records, 1);
+    if right {
+        return u;
+    }
+    say(b"differs: record ", u.records);
+    u.wrong = std::num::wrapping_add_u64(t.wrong, 1);
+    u
 }
 
 // A line on standard output.
