@@ -255,6 +255,9 @@ static const struct row rows[] = {
     {"5 bytes of 3", "ra", &bench, "01 03 0000 00", 7, 0, "", NOTHING},
     {"7 bytes of 3", "rat", &bench, "01 03 0000 0002 00", 7, 0, "", NOTHING},
     {"2 bytes of 1", "ra", &bench, "01 01", 7, 0, "", NOTHING},
+    {"5 bytes of 1", "ra", &bench, "01 01 0000 00", 7, 0, "", NOTHING},
+    {"5 bytes of 2", "ra", &bench, "01 02 0000 00", 7, 0, "", NOTHING},
+    {"5 bytes of 4", "ra", &bench, "01 04 0000 00", 7, 0, "", NOTHING},
     {"7 bytes of 1", "rat", &bench, "01 01 0000 0001 00", 7, 0, "", NOTHING},
     {"7 bytes of 2", "rat", &bench, "01 02 0000 0001 00", 7, 0, "", NOTHING},
     {"7 bytes of 4", "rat", &bench, "01 04 0000 0001 00", 7, 0, "", NOTHING},
@@ -385,7 +388,7 @@ static const char *const list_head =
     "# edited by hand.\n"
     "# A record, numbers high byte first:\n"
     "#   transport (1 byte), unit (1); expected: outcome (1), exception code (1)\n"
-    "#   length of the reply buffer (2), of which byte i is (0x5A + i) % 256 before the call\n"
+    "#   length of the reply buffer (2)\n"
     "#   the table that changes (1: 0 coils, 1 discretes, 2 holdings, 3 inputs) and the byte from which on (4)\n"
     "#   for each table: length in bytes (4), cells (8), and the byte (1) that fills it behind its front\n"
     "#   the lengths (2 each) of the eight parts that follow: broadcast list, frame; expected: reply, changed bytes;\n"

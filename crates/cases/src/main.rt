@@ -1,12 +1,15 @@
-// Runs document 01's cases through the driver, read from standard input: one record a line, as the head of the list says. Every case lays its
-// tables afresh, and compares outcome, code, the whole reply buffer and all four tables.
+// Runs document 01's cases and both sides of its numbers through the driver. They are read from standard input, one
+// record a line, as the head of the list says. Every case lays its tables afresh, and compares outcome, code, the whole
+// reply buffer and all four tables.
 use dalonjang::Driven;
 use records::Tally;
 ghost use Prim.Native.Nat.{_≤_, _<_};
 
 // Where the tables' descriptions stand in a record, the lengths of its parts, and the parts.
 const TABLES: usize = 11;
+
 const LENGTHS: usize = 63;
+
 const PARTS: usize = 79;
 
 // How many parts there are: broadcast list, frame, reply, changed bytes, and the front of each table.
@@ -14,7 +17,9 @@ const COUNT: u8 = 8;
 
 // Room for tables of one cell more than there may be, and for every reply buffer of the list.
 const BITS: usize = 8193;
+
 const WORDS: usize = 131074;
+
 const ROOM: usize = 1024;
 
 fn byte(record: &[u8], at: usize) -> u8 {
@@ -265,7 +270,8 @@ fn with_read(record: &[u8], filler: u8) -> bool {
     cut_read(record, &mut discretes, &mut inputs, filler)
 }
 
-// Whether all comes out as the record says. It runs twice, with two fillers, so that no byte written behind the reply can be the filler by chance.
+// Whether all comes out as the record says. It runs twice, with two fillers: a byte written behind the reply cannot be
+// equal to both.
 fn agrees(record: &[u8]) -> bool {
     if record.len() != start_of(record, COUNT) {
         return false;
@@ -276,7 +282,8 @@ fn agrees(record: &[u8]) -> bool {
     with_read(record, 255)
 }
 
-// A proved loop has to end, and nothing says that the list does. So the loop counts its turns, up to a number that no list reaches.
+// A proved loop has to end, and nothing says that the list does. So the loop counts its turns, up to a number that no
+// list reaches.
 fn run(text: &mut [u8], record: &mut [u8]) -> Tally {
     let mut s = records::start();
     let mut t = Tally {

@@ -1,5 +1,5 @@
-// A list of records on standard input: a record a line, in hexadecimal digits with blanks between them as you like. A line that begins with #
-// only says something. For the programs that run lists of known answers.
+// A list of records on standard input: a record a line, in hexadecimal digits with blanks between them as you like.
+// A line that begins with # only says something. For the programs that run lists of known answers.
 use libc::STDIN_FILENO;
 use libc::STDOUT_FILENO;
 use modbus::ByteAnswer;
@@ -143,8 +143,8 @@ fn step(text: &mut [u8], record: &mut [u8], s: Reading) -> Reading
     taken(record, t, text[at])
 }
 
-// The next record, at the front of `record`; not whole where the list has ended. A proved loop has to end, and nothing says that the input
-// does: so the loop counts its characters, up to a number that no list reaches.
+// The next record, at the front of `record`; not whole where the list has ended. A proved loop has to end, and nothing
+// says that the input does: so the loop counts its turns, up to a number that no line reaches.
 pub fn next(text: &mut [u8], record: &mut [u8], s: Reading) -> Reading
     ensures { λ r. ⌜ r .len ≤ length (now («record» .exit)) ⌝ }
 {

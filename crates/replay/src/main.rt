@@ -89,7 +89,8 @@ fn replayed(record: &[u8], lent: &mut [u8]) -> bool {
     agrees(record, &record[HEAD..from], &record[from..], &mut lent[..m])
 }
 
-// A proved loop has to end, and nothing says that the list does. So the loop counts its turns, up to a number that no list reaches.
+// A proved loop has to end, and nothing says that the list does. So the loop counts its turns, up to a number that no
+// list reaches.
 fn replay(text: &mut [u8], record: &mut [u8], lent: &mut [u8]) -> Tally {
     let mut s = records::start();
     let mut t = Tally {
