@@ -8,7 +8,7 @@ wrapping-add-u64-requires : tie.Need-wrapping-add-u64-requires
 wrapping-add-u64-requires c κs = search needs
 
 returns : tie.Need-returns
-returns c = cc
+returns c = rw (c .if1 .taken, ← c .before .wrapping-add-u64 .ensures)
 
 slice-aggregate-say : tie.Need-slice-aggregate-say
 slice-aggregate-say c = search needs
@@ -20,7 +20,7 @@ wrapping-add-u64-requires-2 : tie.Need-wrapping-add-u64-requires-2
 wrapping-add-u64-requires-2 c κs = search needs
 
 returns-2 : tie.Need-returns-2
-returns-2 c = cc
+returns-2 c = rw (c .before .before .before .if1 .left, ← c .before .before .before .before .wrapping-add-u64 .ensures, ← c .wrapping-add-u642 .ensures)
 
 pub judged-spec : {M : Type 1} → statement M
 judged-spec =
