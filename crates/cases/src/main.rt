@@ -5,7 +5,7 @@ use dalonjang::Driven;
 use records::Tally;
 ghost use Prim.Native.Nat.{_≤_, _<_};
 
-// Where the tables' descriptions stand in a record, the lengths of its parts, and the parts.
+// Where the descriptions of the tables stand in a record, the lengths of its parts, and the parts.
 const TABLES: usize = 11;
 
 const LENGTHS: usize = 63;
@@ -22,6 +22,7 @@ const WORDS: usize = 131074;
 
 const ROOM: usize = 1024;
 
+// Numbers of one and of four bytes, high byte first; what lies outside the record is 0.
 fn byte(record: &[u8], at: usize) -> u8 {
     (octets::word(record, at) / 256) as u8
 }
@@ -65,6 +66,7 @@ fn table_at(t: u8) -> usize
     TABLES + 13 * (t as usize)
 }
 
+// How many cells the table t is said to have, a number of eight bytes: document 01's limits are tried from above too.
 fn cells(record: &[u8], t: u8) -> usize {
     let at = table_at(t) + 4;
     wide(record, at) * 4294967296 + wide(record, at + 4)

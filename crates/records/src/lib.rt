@@ -54,11 +54,11 @@ fn closed(s: Reading) -> Reading
     ensures { λ r. ⌜ r .len ≤ s .len ⌝ }
 {
     let mut t = fresh(s);
-    if s.comment {
-        return t;
-    }
     if s.half || s.broken {
         t.whole = true;
+        return t;
+    }
+    if s.comment {
         return t;
     }
     t.len = s.len;
