@@ -2,7 +2,8 @@
  * the order of the faults, the refusals. Outcome, code, length and every lent byte are compared. Nothing expected is
  * worked out here; only header, CRC and LRC are put around a request and its reply, so that a row holds on all
  * transports.
- * Status: 0 all as document 01 says, 1 a difference. */
+ * `kat list` makes no call: it writes the driver's cases to standard output, as crates/cases/stdin holds them.
+ * Status: 0 all as document 01 says, 1 a difference, 2 called otherwise. */
 #include "asked.h"
 #include <stdio.h>
 #include <stdlib.h>
@@ -254,6 +255,9 @@ static const struct row rows[] = {
     {"5 bytes of 3", "ra", &bench, "01 03 0000 00", 7, 0, "", NOTHING},
     {"7 bytes of 3", "rat", &bench, "01 03 0000 0002 00", 7, 0, "", NOTHING},
     {"2 bytes of 1", "ra", &bench, "01 01", 7, 0, "", NOTHING},
+    {"5 bytes of 1", "ra", &bench, "01 01 0000 00", 7, 0, "", NOTHING},
+    {"5 bytes of 2", "ra", &bench, "01 02 0000 00", 7, 0, "", NOTHING},
+    {"5 bytes of 4", "ra", &bench, "01 04 0000 00", 7, 0, "", NOTHING},
     {"7 bytes of 1", "rat", &bench, "01 01 0000 0001 00", 7, 0, "", NOTHING},
     {"7 bytes of 2", "rat", &bench, "01 02 0000 0001 00", 7, 0, "", NOTHING},
     {"7 bytes of 4", "rat", &bench, "01 04 0000 0001 00", 7, 0, "", NOTHING},
@@ -374,29 +378,99 @@ static uint8_t as_lent(size_t i) { return (uint8_t)(0x5A + i); }
 /* A NULL where the slice is empty: the library must not mind. */
 static struct slice slice(uint8_t *bytes, size_t len) { return (struct slice){len == 0 ? NULL : bytes, len}; }
 
-static void run(const struct row *row, const struct setup *s, int transport, struct slice frame, struct slice reply) {
-    static uint8_t lent[TABLES][MOST], after[TABLES][MOST], list[8], room[1024], asked_bytes[1024];
+/* --- a case as a record of the program `cases` ------------------------------------------------------------------ */
+
+static int listing;
+
+static const char *const list_head =
+    "# Document 01's cases and both sides of its numbers: calls of the driver with what has to come of them,\n"
+    "# one record a line in hex digits. Made by `kat list` (tests/kat.c, built by bin/driver-runs); not to be\n"
+    "# edited by hand.\n"
+    "# A record, numbers high byte first:\n"
+    "#   transport (1 byte), unit (1); expected: outcome (1), exception code (1)\n"
+    "#   length of the reply buffer (2)\n"
+    "#   the table that changes (1: 0 coils, 1 discretes, 2 holdings, 3 inputs) and the byte from which on (4)\n"
+    "#   for each table: length in bytes (4), cells (8), and the byte (1) that fills it behind its front\n"
+    "#   the lengths (2 each) of the eight parts that follow: broadcast list, frame; expected: reply, changed bytes;\n"
+    "#   the front of each table.\n";
+
+static void put_number(size_t n, int width) {
+    while (width-- > 0) printf("%02X", (unsigned)(n >> 8 * width) & 0xFF);
+}
+
+static void put_bytes(struct slice s) {
+    if (s.len > 0) putchar(' ');
+    for (size_t i = 0; i < s.len; i++) put_number(s.bytes[i], 1);
+}
+
+/* What stands before the last byte and those equal to it. */
+static struct slice front(struct slice s) {
+    while (s.len > 1 && s.bytes[s.len - 2] == s.bytes[s.len - 1]) s.len--;
+    return (struct slice){s.bytes, s.len > 0 ? s.len - 1 : 0};
+}
+
+static void list_case(const struct row *row, const struct asked *a, struct slice reply) {
+    static uint8_t changed[1024];
+    struct slice now = {changed, bytes_of(row->now, changed)};
+    struct slice parts[4 + TABLES] = {a->list, a->frame, reply, now};
+    printf("# %u: %s, transport %d\n%02X%02X %02X%02X ", ++checks, row->name, a->transport, a->transport, a->unit,
+           (unsigned)row->outcome, (unsigned)row->code);
+    put_number(a->reply.len, 2);
+    printf(" %02X", (unsigned)row->table);
+    put_number(row->at, 4);
+    for (int t = 0; t < TABLES; t++) {
+        struct slice table = a->table[t];
+        parts[4 + t] = front(table);
+        putchar(' ');
+        put_number(table.len, 4);
+        put_number(a->cells[t], 8);
+        put_number(table.len > 0 ? table.bytes[table.len - 1] : 0, 1);
+    }
+    putchar(' ');
+    for (size_t i = 0; i < CASES(parts); i++) put_number(parts[i].len, 2);
+    for (size_t i = 0; i < CASES(parts); i++) put_bytes(parts[i]);
+    putchar('\n');
+}
+
+/* --- a case as a call ------------------------------------------------------------------------------------------- */
+
+/* The call of a row, its tables and its reply buffer laid afresh. */
+static struct asked laid(const struct setup *s, int transport, struct slice frame) {
+    static uint8_t lent[TABLES][MOST], list[8], room[1024];
     size_t width = s->room < 0 ? 0 : s->room > 0 ? (size_t)s->room : transport == DALONJANG_ASCII ? 511 : 260;
     struct asked a = {.transport = (uint8_t)transport, .unit = s->unit, .frame = frame, .reply = slice(room, width)};
     a.list = slice(list, bytes_of(s->list, list));
     for (int t = 0; t < TABLES; t++) {
         a.table[t] = slice(lent[t], bytes_of(s->table[t], lent[t]));
-        memcpy(after[t], lent[t], a.table[t].len);
         a.cells[t] = s->cells[t];
     }
-    bytes_of(row->now, after[row->table] + row->at);
     for (size_t i = 0; i < width; i++) room[i] = as_lent(i);
+    return a;
+}
+
+static int equal(struct slice s, const uint8_t *bytes) { return s.len == 0 || memcmp(s.bytes, bytes, s.len) == 0; }
+
+static void run(const struct row *row, const struct setup *s, int transport, struct slice frame, struct slice reply) {
+    static uint8_t after[TABLES][MOST], asked_bytes[1024];
+    struct asked a = laid(s, transport, frame);
+    if (listing) {
+        list_case(row, &a, reply);
+        return;
+    }
+    for (int t = 0; t < TABLES; t++)
+        if (a.table[t].len > 0) memcpy(after[t], a.table[t].bytes, a.table[t].len);
+    bytes_of(row->now, after[row->table] + row->at);
     if (frame.len > 0) memcpy(asked_bytes, frame.bytes, frame.len);
     struct dalonjang_result r = drive(&a);
     if (r.outcome != row->outcome) different(row->name, "the outcome");
     if (r.code != row->code) different(row->name, "the code");
     if (r.length != reply.len) different(row->name, "the reply's length");
-    if (reply.len > 0 && memcmp(room, reply.bytes, reply.len) != 0) different(row->name, "the reply");
-    for (size_t i = reply.len; i < width; i++)
-        if (room[i] != as_lent(i)) different(row->name, "a byte after the reply");
+    if (!equal(reply, a.reply.bytes)) different(row->name, "the reply");
+    for (size_t i = reply.len; i < a.reply.len; i++)
+        if (a.reply.bytes[i] != as_lent(i)) different(row->name, "a byte after the reply");
     for (int t = 0; t < TABLES; t++)
-        if (memcmp(lent[t], after[t], a.table[t].len) != 0) different(row->name, "a table");
-    if (frame.len > 0 && memcmp(asked_bytes, frame.bytes, frame.len) != 0) different(row->name, "the frame afterwards");
+        if (!equal(a.table[t], after[t])) different(row->name, "a table");
+    if (!equal(frame, asked_bytes)) different(row->name, "the frame afterwards");
     checks++;
 }
 
@@ -595,12 +669,16 @@ static void run_others(void) {
     }
 }
 
-int main(void) {
+int main(int argc, char **argv) {
+    listing = argc == 2 && strcmp(argv[1], "list") == 0;
+    if (argc > 1 && !listing) return fputs("usage: kat [list]\n", stderr), 2;
+    if (listing) fputs(list_head, stdout);
     /* case l: the CRC put around the rows */
     if (model_crc((const uint8_t *)"", 0) != 0xFFFF || model_crc((const uint8_t *)"\0", 1) != 0x40BF
         || model_crc((const uint8_t *)"\xFF", 1) != 0x00FF) different("case l", "the CRC of these tests");
     for (size_t i = 0; i < CASES(rows); i++) run_row(&rows[i]);
     run_setups();
+    if (listing) return 0;
     run_others();
     printf("%u checks, all as document 01 says\n", checks);
     return 0;

@@ -1,10 +1,9 @@
 // Replays a fixed list of the crate's answers, read from standard input: one record a line, in hexadecimal digits, as the head of the list
 // says. No Rust is needed for it.
-use libc::STDIN_FILENO;
-use libc::STDOUT_FILENO;
 use modbus::Answer;
 use modbus::ByteAnswer;
 use modbus::ProtoAnswer;
+use records::Tally;
 
 // The bytes of a record before its input.
 const HEAD: usize = 11;
@@ -90,123 +89,30 @@ fn replayed(record: &[u8], lent: &mut [u8]) -> bool {
     agrees(record, &record[HEAD..from], &record[from..], &mut lent[..m])
 }
 
-// What has been read of a line, and the counts so far.
-struct Reading {
-    len: usize,
-    half: bool,
-    high: u8,
-    comment: bool,
-    records: u64,
-    wrong: u64,
-}
-
-// A record that the port answers otherwise is counted, and named by its number.
-fn differs(s: Reading) -> Reading {
-    let mut t = s;
-    t.wrong = std::num::wrapping_add_u64(s.wrong, 1);
-    say(b"differs: record ", t.records);
-    t
-}
-
-// A line has ended: where it was a record, it is replayed.
-fn closed(record: &[u8], lent: &mut [u8], s: Reading) -> Reading {
-    let len = s.len;
-    let mut t = s;
-    t.len = 0;
-    t.half = false;
-    t.comment = false;
-    if s.comment || len == 0 {
-        return t;
-    }
-    t.records = std::num::wrapping_add_u64(s.records, 1);
-    if s.half {
-        return differs(t);
-    }
-    if record.len() < len {
-        return differs(t);
-    }
-    if replayed(&record[..len], lent) {
-        return t;
-    }
-    differs(t)
-}
-
-// One digit more; what is no digit, or stands beyond the longest record, leaves a half and so a record that differs.
-fn digit(record: &mut [u8], s: Reading, c: u8) -> Reading {
-    let mut t = s;
-    t.half = true;
-    let value = checks::chr_to_hex(c);
-    let ByteAnswer::Value(v) = value else {
-        return t;
-    };
-    t.high = v;
-    if !s.half {
-        return t;
-    }
-    let len = s.len;
-    if len < record.len() {
-        record[len] = (s.high % 16) * 16 + v % 16;
-        t.len = len + 1;
-        t.half = false;
-    }
-    t
-}
-
-// One character of the list.
-fn taken(record: &mut [u8], lent: &mut [u8], s: Reading, c: u8) -> Reading {
-    if c == b'\n' {
-        return closed(record, lent, s);
-    }
-    if s.comment {
-        return s;
-    }
-    if c == b'#' {
-        let mut t = s;
-        t.comment = true;
-        return t;
-    }
-    digit(record, s, c)
-}
-
-fn feed(text: &[u8], record: &mut [u8], lent: &mut [u8], s: Reading) -> Reading {
-    let mut t = s;
-    for i in 0..text.len() {
-        t = taken(record, lent, t, text[i]);
-    }
-    t
-}
-
-// A proved loop has to end, and nothing says that the input does. So the loop counts its turns, up to a number that no list reaches.
-fn replay(text: &mut [u8], record: &mut [u8], lent: &mut [u8]) -> Reading {
-    let mut s = Reading {
-        len: 0,
-        half: false,
-        high: 0,
-        comment: false,
+// A proved loop has to end, and nothing says that the list does. So the loop counts its turns, up to a number that no
+// list reaches.
+fn replay(text: &mut [u8], record: &mut [u8], lent: &mut [u8]) -> Tally {
+    let mut s = records::start();
+    let mut t = Tally {
         records: 0,
         wrong: 0,
     };
     for _ in 0..1000000u32 {
-        let n = io::read_full(STDIN_FILENO, text);
-        if n == 0 {
-            return s;
+        s = records::next(text, record, s);
+        if !s.whole {
+            return t;
         }
-        s = feed(&text[..n], record, lent, s);
+        let len = s.len;
+        t = records::judged(t, replayed(&record[..len], lent));
     }
-    s
-}
-
-fn say(what: &[u8], n: u64) {
-    io::write_all(STDOUT_FILENO, what);
-    io::print_decimal(STDOUT_FILENO, n);
-    io::write_all(STDOUT_FILENO, b"\n");
+    t
 }
 
 fn main() {
     let mut text = io::buffer();
     let mut record = io::buffer();
     let mut lent = io::buffer();
-    let s = replay(&mut text, &mut record, &mut lent);
-    say(b"answers of the crate replayed: ", s.records);
-    say(b"answers that differ: ", s.wrong);
+    let t = replay(&mut text, &mut record, &mut lent);
+    records::say(b"answers of the crate replayed: ", t.records);
+    records::say(b"answers that differ: ", t.wrong);
 }

@@ -1,25 +1,28 @@
 -- `replay::replay` is safe and ends.
 -- Assumes nothing.
-use mathlib.Core.Path.{_≡_, refl, sym}
+use mathlib.Core.Path.{_≡_, sym}
 use Prim.Native.Nat.{_≤_, _-_}
 use lib.ListN.{length}
 use lib.Seq.{length-take-le}
-use borrow.Author.Needs.{needs}
 use native.Mathlib.Omega.{arith}
+use borrow.Author.Needs.{needs}
 use Rattle.replay.proofs.replay.Statement.{statement}
 use Rattle.replay.proofs.replay.Tie as tie
 
 abbrev Inv-loop : tie.InvT-loop
-Inv-loop text₀ record₀ lent₀ s₀ counter₀ text «record» lent s counter = (counter ≤ 1000000) × ((length text ≡ length text₀) × ((length «record» ≡ length record₀) × (length lent ≡ length lent₀)))
+Inv-loop text₀ record₀ lent₀ s₀ t₀ counter₀ text «record» lent s t counter = (counter ≤ 1000000) × (length text ≡ length text₀) × (length «record» ≡ length record₀) × (length lent ≡ length lent₀)
 
 abbrev μ-loop : tie.MeasureT-loop
-μ-loop text₀ record₀ lent₀ s₀ counter₀ text «record» lent s counter = 1000000 - counter
+μ-loop text₀ record₀ lent₀ s₀ t₀ counter₀ text «record» lent s t counter = 1000000 - counter
+
+start-requires : tie.Need-start-requires Inv-loop μ-loop
+start-requires c κs = search needs
 
 loop-holds : tie.Need-loop-holds Inv-loop μ-loop
-loop-holds c = (omega arith, (refl, (refl, refl)))
+loop-holds c = search needs
 
-read-full-requires : tie.Need-read-full-requires Inv-loop μ-loop
-read-full-requires c κs = search needs
+next-requires : tie.Need-next-requires Inv-loop μ-loop
+next-requires c κs = search needs
 
 same-length : tie.Need-same-length Inv-loop μ-loop
 same-length c = search needs
@@ -33,14 +36,17 @@ same-length-3 c = search needs
 returns : tie.Need-returns Inv-loop μ-loop
 returns c = search needs
 
-slice-reshare-prefix-feed : tie.Need-slice-reshare-prefix-feed Inv-loop μ-loop
-slice-reshare-prefix-feed c = search needs
+slice-reshare-prefix-replayed : tie.Need-slice-reshare-prefix-replayed Inv-loop μ-loop
+slice-reshare-prefix-replayed c = search needs
 
-slice-aggregate-feed : tie.Need-slice-aggregate-feed Inv-loop μ-loop
-slice-aggregate-feed c = search needs
+slice-aggregate-replayed : tie.Need-slice-aggregate-replayed Inv-loop μ-loop
+slice-aggregate-replayed c = sym (length-take-le _ _ (omega arith))
 
-feed-requires : tie.Need-feed-requires Inv-loop μ-loop
-feed-requires c κs = search needs
+replayed-requires : tie.Need-replayed-requires Inv-loop μ-loop
+replayed-requires c κs = search needs
+
+judged-requires : tie.Need-judged-requires Inv-loop μ-loop
+judged-requires c κs = search needs
 
 add-counter : tie.Need-add-counter Inv-loop μ-loop
 add-counter c = search needs
@@ -69,15 +75,17 @@ replay-spec =
     (tie.spec
     Inv-loop
     μ-loop
+    start-requires
     loop-holds
-    read-full-requires
+    next-requires
     same-length
     same-length-2
     same-length-3
     returns
-    slice-reshare-prefix-feed
-    slice-aggregate-feed
-    feed-requires
+    slice-reshare-prefix-replayed
+    slice-aggregate-replayed
+    replayed-requires
+    judged-requires
     add-counter
     loop-less
     loop-again

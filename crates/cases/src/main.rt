@@ -1,0 +1,312 @@
+// Runs document 01's cases and both sides of its numbers through the driver. They are read from standard input, one
+// record a line, as the head of the list says. Every case lays its tables afresh, and compares outcome, code, the whole
+// reply buffer and all four tables.
+use dalonjang::Driven;
+use records::Tally;
+ghost use Prim.Native.Nat.{_≤_, _<_};
+
+// Where the descriptions of the tables stand in a record, the lengths of its parts, and the parts.
+const TABLES: usize = 11;
+
+const LENGTHS: usize = 63;
+
+const PARTS: usize = 79;
+
+// How many parts there are: broadcast list, frame, reply, changed bytes, and the front of each table.
+const COUNT: u8 = 8;
+
+// Room for tables of one cell more than there may be, and for every reply buffer of the list.
+const BITS: usize = 8193;
+
+const WORDS: usize = 131074;
+
+const ROOM: usize = 1024;
+
+// Numbers of one and of four bytes, high byte first; what lies outside the record is 0.
+fn byte(record: &[u8], at: usize) -> u8 {
+    (octets::word(record, at) / 256) as u8
+}
+
+fn wide(record: &[u8], at: usize) -> usize
+    ensures { λ r. ⌜ r < 4294967296 ⌝ }
+{
+    if record.len() <= at {
+        return 0;
+    }
+    let high = octets::word(record, at) as usize;
+    let low = octets::word(record, at + 2) as usize;
+    high * 65536 + low
+}
+
+// Where the part k begins.
+fn start_of(record: &[u8], k: u8) -> usize
+    ensures { λ r. ⌜ r ≤ 16777216 ⌝ }
+{
+    let mut at = PARTS;
+    for i in 0..k {
+        at += octets::word(record, LENGTHS + 2 * (i as usize)) as usize;
+    }
+    at
+}
+
+// The part k; empty where the record ends before it does.
+fn part(record: &[u8], k: u8) -> &[u8] {
+    let from = start_of(record, k);
+    let to = from + octets::word(record, LENGTHS + 2 * (k as usize)) as usize;
+    if record.len() < to {
+        return &record[0..0];
+    }
+    &record[from..to]
+}
+
+// Where the description of the table t stands: its length, its cells, the byte that fills it.
+fn table_at(t: u8) -> usize
+    ensures { λ r. ⌜ r ≤ 4000 ⌝ }
+{
+    TABLES + 13 * (t as usize)
+}
+
+// How many cells the table t is said to have, a number of eight bytes: document 01's limits are tried from above too.
+fn cells(record: &[u8], t: u8) -> usize {
+    let at = table_at(t) + 4;
+    wide(record, at) * 4294967296 + wide(record, at + 4)
+}
+
+// The byte i of a buffer that holds `front`, and then the byte `filler` to its end.
+fn laid(i: usize, front: &[u8], filler: u8) -> u8 {
+    if i < front.len() {
+        return front[i];
+    }
+    filler
+}
+
+fn lay(buffer: &mut [u8], front: &[u8], filler: u8) {
+    for i in 0..buffer.len() {
+        buffer[i] = laid(i, front, filler);
+    }
+}
+
+// Whether a buffer is as it was laid, except that `now` stands in it from the byte `at` on.
+fn stands(buffer: &[u8], front: &[u8], filler: u8, at: usize, now: &[u8]) -> bool {
+    if buffer.len() < at {
+        return false;
+    }
+    if buffer.len() - at < now.len() {
+        return false;
+    }
+    for i in 0..buffer.len() {
+        let mut want = laid(i, front, filler);
+        if at <= i {
+            want = laid(i - at, now, want);
+        }
+        if buffer[i] != want {
+            return false;
+        }
+    }
+    true
+}
+
+fn lay_table(record: &[u8], t: u8, table: &mut [u8])
+    requires { ⌜ t ≤ 3 ⌝ }
+{
+    lay(table, part(record, 4 + t), byte(record, table_at(t) + 12));
+}
+
+// Whether the table t is afterwards what the record says.
+fn kept(record: &[u8], t: u8, table: &[u8]) -> bool
+    requires { ⌜ t ≤ 3 ⌝ }
+{
+    let front = part(record, 4 + t);
+    let filler = byte(record, table_at(t) + 12);
+    if byte(record, 6) == t {
+        return stands(table, front, filler, wide(record, 7), part(record, 3));
+    }
+    stands(table, front, filler, 0, &record[0..0])
+}
+
+fn told(record: &[u8], got: Driven) -> bool {
+    if got.outcome != byte(record, 2) {
+        return false;
+    }
+    if got.code != byte(record, 3) {
+        return false;
+    }
+    got.length == part(record, 2).len()
+}
+
+// The call itself.
+fn called(
+    record: &[u8],
+    coils: &mut [u8],
+    discretes: &[u8],
+    holdings: &mut [u8],
+    inputs: &[u8],
+    reply: &mut [u8],
+) -> Driven {
+    dalonjang::dalonjang_drive(
+        byte(record, 0),
+        byte(record, 1),
+        part(record, 0),
+        coils,
+        cells(record, 0),
+        discretes,
+        cells(record, 1),
+        holdings,
+        cells(record, 2),
+        inputs,
+        cells(record, 3),
+        part(record, 1),
+        reply,
+    )
+}
+
+// Whether every lent buffer is afterwards what the record says.
+fn left(
+    record: &[u8],
+    coils: &[u8],
+    discretes: &[u8],
+    holdings: &[u8],
+    inputs: &[u8],
+    reply: &[u8],
+    filler: u8,
+) -> bool {
+    if !stands(reply, &record[0..0], filler, 0, part(record, 2)) {
+        return false;
+    }
+    if !kept(record, 0, coils) {
+        return false;
+    }
+    if !kept(record, 1, discretes) {
+        return false;
+    }
+    if !kept(record, 2, holdings) {
+        return false;
+    }
+    kept(record, 3, inputs)
+}
+
+// The case over buffers as long as the record says. Of the reply buffer every byte is `filler` before the call.
+fn served(
+    record: &[u8],
+    coils: &mut [u8],
+    discretes: &[u8],
+    holdings: &mut [u8],
+    inputs: &[u8],
+    reply: &mut [u8],
+    filler: u8,
+) -> bool {
+    lay_table(record, 0, coils);
+    lay_table(record, 2, holdings);
+    lay(reply, &record[0..0], filler);
+    let got = called(record, coils, discretes, holdings, inputs, reply);
+    let right = told(record, got);
+    left(record, coils, discretes, holdings, inputs, reply, filler) && right
+}
+
+// The tables that requests write, and the reply buffer, cut to their lengths.
+fn cut_written(
+    record: &[u8],
+    coils: &mut [u8],
+    discretes: &[u8],
+    holdings: &mut [u8],
+    inputs: &[u8],
+    reply: &mut [u8],
+    filler: u8,
+) -> bool {
+    let c = wide(record, table_at(0));
+    let h = wide(record, table_at(2));
+    let room = octets::word(record, 4) as usize;
+    if coils.len() < c {
+        return false;
+    }
+    if holdings.len() < h {
+        return false;
+    }
+    if reply.len() < room {
+        return false;
+    }
+    served(
+        record,
+        &mut coils[..c],
+        discretes,
+        &mut holdings[..h],
+        inputs,
+        &mut reply[..room],
+        filler,
+    )
+}
+
+fn with_written(record: &[u8], discretes: &[u8], inputs: &[u8], filler: u8) -> bool {
+    let mut coils = [0; BITS];
+    let mut holdings = [0; WORDS];
+    let mut reply = [0; ROOM];
+    cut_written(
+        record,
+        &mut coils,
+        discretes,
+        &mut holdings,
+        inputs,
+        &mut reply,
+        filler,
+    )
+}
+
+// The tables that requests only read, cut to their lengths and laid.
+fn cut_read(record: &[u8], discretes: &mut [u8], inputs: &mut [u8], filler: u8) -> bool {
+    let d = wide(record, table_at(1));
+    let i = wide(record, table_at(3));
+    if discretes.len() < d {
+        return false;
+    }
+    if inputs.len() < i {
+        return false;
+    }
+    lay_table(record, 1, &mut discretes[..d]);
+    lay_table(record, 3, &mut inputs[..i]);
+    with_written(record, &discretes[..d], &inputs[..i], filler)
+}
+
+fn with_read(record: &[u8], filler: u8) -> bool {
+    let mut discretes = [0; BITS];
+    let mut inputs = [0; WORDS];
+    cut_read(record, &mut discretes, &mut inputs, filler)
+}
+
+// Whether all comes out as the record says. It runs twice, with two fillers: a byte written behind the reply cannot be
+// equal to both.
+fn agrees(record: &[u8]) -> bool {
+    if record.len() != start_of(record, COUNT) {
+        return false;
+    }
+    if !with_read(record, 0) {
+        return false;
+    }
+    with_read(record, 255)
+}
+
+// A proved loop has to end, and nothing says that the list does. So the loop counts its turns, up to a number that no
+// list reaches.
+fn run(text: &mut [u8], record: &mut [u8]) -> Tally {
+    let mut s = records::start();
+    let mut t = Tally {
+        records: 0,
+        wrong: 0,
+    };
+    for _ in 0..1000000u32 {
+        s = records::next(text, record, s);
+        if !s.whole {
+            return t;
+        }
+        let len = s.len;
+        t = records::judged(t, agrees(&record[..len]));
+    }
+    t
+}
+
+fn main() {
+    let mut text = io::buffer();
+    let mut record = io::buffer();
+    let t = run(&mut text, &mut record);
+    records::say(b"cases of document 01 run: ", t.records);
+    records::say(b"cases that differ: ", t.wrong);
+}
