@@ -1,5 +1,5 @@
 # The README's commands. `make test` is what .ci/run calls; its last line is rt ci's 'N passed, 0 failed'.
-.PHONY: test beside driver-runs prove lib serve clean
+.PHONY: test beside driver-runs host-runs peers prove lib serve clean
 
 test: beside driver-runs prove
 
@@ -11,6 +11,14 @@ beside:
 driver-runs:
 	@bin/driver-runs $(RUNS)
 
+# the server of host/ by a client of our own: streams, clients, lines, image, options
+host-runs:
+	@bin/host-runs
+
+# the server and mbpoll, pymodbus and libmodbus, as far as their packages can be had
+peers:
+	@bin/peers
+
 # every crate proved from nothing, the must-fail edits refused, the programs run
 prove:
 	@rt ci
@@ -20,8 +28,9 @@ lib:
 	@mkdir -p out && rt staticlib dalonjang >out/lib.log 2>&1 || { cat out/lib.log >&2; exit 1; }
 	@echo 'target/staticlib/libdalonjang.a, with include/dalonjang.h'
 
+# a Modbus server on 127.0.0.1:1502 (ARGS="--port 1503" for other options, ARGS=--help lists them)
 serve:
-	@echo 'dalonjang: there is no server yet: the driver is there as a C library (make lib), the program around it is not' >&2; exit 1
+	@bin/serve $(ARGS)
 
 clean:
 	rm -rf out target

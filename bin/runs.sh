@@ -1,4 +1,4 @@
-# For bin/beside and bin/driver-runs, which source it: what the runs beside the Rust need, from packages to the oracle.
+# For the programs of bin/, which source it: what they need, from packages to the oracle and the server.
 # shellcheck shell=bash
 source=../shared/docs/src/src # the crate's source stands beside the repository, never in it
 vectors=out/oracle/target/oracle/vectors
@@ -17,18 +17,26 @@ logged() {
     "$@" >"$log" 2>&1 || { cat "$log" >&2; fail "failed: $*"; }
 }
 
-# packages [rust]: a C compiler's headers, and Rust where it is said
+# can_install: whether this machine lets us, after which it knows what there is; fetch PACKAGE..: does it
+can_install() {
+    [ "$(id -u)" = 0 ] && command -v apt-get >/dev/null && apt-get update >out/packages.log 2>&1
+}
+fetch() {
+    DEBIAN_FRONTEND=noninteractive apt-get install -y --no-install-recommends "$@"
+}
+
+# packages [rust|python]: a C compiler's headers, and Rust or Python where it is said
 packages() {
-    local c='' rust=''
+    local c='' rust='' python=''
     { [ -e /usr/include/stdio.h ] && command -v gcc >/dev/null; } || c='gcc libc6-dev'
     [ "${1:-}" != rust ] || command -v cargo >/dev/null || rust='cargo rustc'
-    [ -z "$c$rust" ] && return
-    { [ "$(id -u)" = 0 ] && command -v apt-get >/dev/null; } || fail "these packages are missing: $c $rust"
-    logged packages apt-get update
+    [ "${1:-}" != python ] || [ -x /usr/bin/python3 ] || python='python3'
+    [ -z "$c$rust$python" ] && return
+    can_install || fail "these packages are missing: $c $rust $python"
     # the crate wants Rust 1.81; in Debian 12 only the packages -web are new enough
     if [ -n "$rust" ] && apt-cache show cargo-web >/dev/null 2>&1; then rust='cargo-web rustc-web'; fi
     # shellcheck disable=SC2086
-    logged packages env DEBIAN_FRONTEND=noninteractive apt-get install -y --no-install-recommends $c $rust
+    logged packages fetch $c $rust $python
 }
 
 # put FROM TO: copied only where it differs, so that cargo builds again exactly what changed
@@ -58,6 +66,13 @@ library() {
             LIB="${LIB:-} target/staticlib/lib$crate.a"
         done
     fi
+}
+
+# build_server NAME [FILE.c|OPTION..]: out/NAME, the server of host/ around the library
+build_server() {
+    local name=$1
+    shift
+    logged x86cc bin/x86cc -Werror -Iinclude -o "out/$name" host/*.c "$@" $LIB
 }
 
 # compare CHECK COMMAND N: the statuses of both programs, as "vectors check"
