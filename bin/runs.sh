@@ -68,11 +68,31 @@ library() {
     fi
 }
 
-# build_server NAME [FILE.c|OPTION..]: out/NAME, the server of host/ around the library
+# build_server NAME [FOLDER]: out/NAME, the server of host/ or of a copy of it, around the library
 build_server() {
-    local name=$1
-    shift
-    logged x86cc bin/x86cc -Werror -Iinclude -o "out/$name" host/*.c "$@" $LIB
+    logged x86cc bin/x86cc -Werror -Iinclude -o "out/$1" "${2:-host}"/*.c $LIB
+}
+
+# wrong_server FILE OLD NEW: out/wrong, the server with one place in FILE of host/ changed
+wrong_server() {
+    local text
+    text=$(<"host/$1")
+    [[ $text == *"$2"* ]] || fail "host/$1 has no '$2' that could be changed"
+    rm -rf out/wrong-host
+    cp -r host out/wrong-host
+    printf '%s\n' "${text%%"$2"*}$3${text#*"$2"}" >"out/wrong-host/$1"
+    build_server wrong out/wrong-host
+}
+
+# saw STATUS LOG WHO WHAT: a test sees a wrong server when it says what is wrong and ends with 1; counts both
+tried=0 seen=0
+saw() {
+    tried=$((tried + 1))
+    if [ "$1" = 1 ] && grep -q '^wrong: ' "$2"; then
+        seen=$((seen + 1))
+    else
+        echo "$(basename "$0"): $3 did not see a wrong server: $4 (status $1)" >&2
+    fi
 }
 
 # compare CHECK COMMAND N: the statuses of both programs, as "vectors check"

@@ -6,6 +6,7 @@ import random
 import shutil
 import signal
 import socket
+import subprocess
 import sys
 import tempfile
 import threading
@@ -258,7 +259,7 @@ def test_rtu_silence(program):
         frame = rtu(READ)
         for at in range(8):
             line.send(frame[at:at + 1])
-            time.sleep(0.01)
+            time.sleep(0.07)
         same(line.receive(9), rtu(READ_REPLY), "the reply to a frame in pieces")
         line.send(frame[:5])
         time.sleep(1.5)
@@ -456,7 +457,7 @@ def main():
     for name in names or tests:
         try:
             tests[name](program)
-        except (Wrong, OSError) as fault:
+        except (Wrong, OSError, subprocess.TimeoutExpired) as fault:
             print(f"wrong: {name}: {fault}")
             return 1
     print(f"{len(names or tests)} tests, all as they should be: {', '.join(n.replace('_', ' ') for n in names or tests)}")

@@ -12,7 +12,7 @@ import tempfile
 import time
 import tty
 
-PATIENCE = 20  # seconds within which whatever is due must come, on a busy machine too
+PATIENCE = 15  # seconds within which whatever is due must come, on a busy machine too
 QUIET = 0.4    # seconds without a byte that count as "no reply"
 
 
