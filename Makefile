@@ -1,7 +1,7 @@
 # The README's commands. `make test` is what .ci/run calls; its last line is rt ci's 'N passed, 0 failed'.
 .PHONY: test beside driver-runs host-runs peers prove lib serve clean
 
-test: beside driver-runs prove
+test: beside driver-runs host-runs peers prove
 
 # the ported calls beside the Rust they are ported from, on the same bytes (CALLS="5000000 2000000" for more)
 beside:

@@ -84,10 +84,12 @@ wrong_server() {
     build_server wrong out/wrong-host
 }
 
-# saw STATUS LOG WHO WHAT: a test sees a wrong server when it says what is wrong and ends with 1; counts both
+# saw STATUS LOG WHO WHAT: a test sees a wrong server when it says what is wrong and ends with 1; both are counted, and
+# what each saw is added to out/wrong-servers.log
 tried=0 seen=0
 saw() {
     tried=$((tried + 1))
+    echo "$4; $3 says: $(tail -n 1 "$2")" >>out/wrong-servers.log
     if [ "$1" = 1 ] && grep -q '^wrong: ' "$2"; then
         seen=$((seen + 1))
     else

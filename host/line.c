@@ -10,7 +10,7 @@ enum {
     CHUNK = 64            /* no more is read at once: the ASCII frames that end in it have room for their replies */
 };
 
-/* --- opening -------------------------------------------------------------------------------------------------------- */
+/* --- opening ------------------------------------------------------------------------------------------------------ */
 
 unsigned line_speed(size_t baud) {
     static const struct { unsigned baud, speed; } known[] = {{1200, B1200}, {2400, B2400}, {4800, B4800}, {9600, B9600},
@@ -58,7 +58,7 @@ int line_open(struct line *l, const struct options *o, size_t which) {
     return 0;
 }
 
-/* --- frames --------------------------------------------------------------------------------------------------------- */
+/* --- frames ------------------------------------------------------------------------------------------------------- */
 
 static void lose(struct line *l, struct station *s) {
     log_event(s->log, l->name, "lost");
@@ -89,7 +89,7 @@ static void collect_ascii(struct line *l, const uint8_t *bytes, size_t len, stru
 }
 
 struct pollfd line_wants(const struct line *l) {
-    return (struct pollfd){l->fd, l->out.left > 0 ? POLLOUT : POLLIN, 0}; /* the next frame waits for this one's reply */
+    return (struct pollfd){l->fd, l->out.left > 0 ? POLLOUT : POLLIN, 0}; /* a frame waits for the reply before it */
 }
 
 int64_t line_due(const struct line *l) {

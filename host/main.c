@@ -32,7 +32,7 @@ static int watch_signals(struct host *h) {
     return signal(SIGINT, on_signal) != SIG_ERR && signal(SIGTERM, on_signal) != SIG_ERR;
 }
 
-/* --- start and end -------------------------------------------------------------------------------------------------- */
+/* --- start and end ------------------------------------------------------------------------------------------------ */
 
 static int open_log(struct station *s, const char *path) {
     if (path == NULL) return 1;
@@ -68,9 +68,10 @@ static void announce(const struct host *h, const struct options *o) {
     for (int t = 0; t < TABLES; t++) printf(" %zu %s%s", o->cells[t], table_name[t], t + 1 < TABLES ? "," : "");
     if (o->image != NULL) printf("; image %s", o->image);
     const char *address = o->ip == 0 ? "127.0.0.1" : o->address;
-    if (!o->no_tcp) printf("\ntry: mbpoll -m tcp -p %zu -a %zu -t 4 -r 1 -c 4 -1 %s", o->port, o->unit, address);
+    const char *first = "-t 4 -r 1 -c 4 -1"; /* the first four holdings, once */
+    if (!o->no_tcp) printf("\ntry: mbpoll -m tcp -p %zu -a %zu %s %s", o->port, o->unit, first, address);
     else if (o->line[0].transport == DALONJANG_RTU)
-        printf("\ntry, at the other end: mbpoll -m rtu -b %zu -P even -a %zu -t 4 -r 1 -c 4 -1 DEVICE", o->baud, o->unit);
+        printf("\ntry, at the other end: mbpoll -m rtu -b %zu -a %zu %s DEVICE", o->baud, o->unit, first);
     printf("\nControl-C ends it.\n");
     fflush(stdout);
 }
@@ -90,7 +91,7 @@ static void end(struct host *h) {
     fflush(stdout);
 }
 
-/* --- the rounds ----------------------------------------------------------------------------------------------------- */
+/* --- the rounds --------------------------------------------------------------------------------------------------- */
 
 static int timeout(const struct host *h) {
     int64_t due = tcp_due(&h->tcp), now = clock_ms();

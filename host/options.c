@@ -10,7 +10,8 @@ struct option {
     size_t least, most, place;
     int (*set)(struct options *o, const char *value);
 };
-#define NUMBER(name, help, least, most, field) {name, "NUMBER", help, least, most, offsetof(struct options, field), NULL}
+#define NUMBER(name, help, least, most, field) \
+    {name, "NUMBER", help, least, most, offsetof(struct options, field), NULL}
 #define OTHER(name, takes, help, set) {name, takes, help, 0, 0, 0, set}
 
 static int set_address(struct options *o, const char *value) {
@@ -73,7 +74,7 @@ static int set_log(struct options *o, const char *value) { return (o->log = valu
 static const struct option option[] = {
     OTHER("address", "ADDRESS", "listen on this IPv4 address (127.0.0.1; 0.0.0.0 is all of this machine)", set_address),
     NUMBER("port", "listen on this port (1502; 0 is any that is free)", 0, 65535, port),
-    NUMBER("clients", "as many TCP clients at once (32); for one more, the longest silent goes", 1, MOST_CLIENTS, clients),
+    NUMBER("clients", "TCP clients at once (32); for one more, the longest silent goes", 1, MOST_CLIENTS, clients),
     NUMBER("idle", "seconds after which a silent TCP client is closed (60; 0 is never)", 0, 1000000, idle),
     NUMBER("patience", "seconds that a frame may take to come, or its reply to be taken (5)", 1, 3600, patience),
     OTHER("no-tcp", NULL, "serve serial lines alone", set_no_tcp),

@@ -38,7 +38,7 @@ static void put_cell(struct table tables[TABLES], int which, size_t n, size_t va
     }
 }
 
-/* --- from the file -------------------------------------------------------------------------------------------------- */
+/* --- from the file ------------------------------------------------------------------------------------------------ */
 
 /* A table's name, a cell, and the values of that cell and of those after it. Answers what is wrong, or NULL. */
 static const char *take_row(struct table tables[TABLES], char *row) {
@@ -78,11 +78,12 @@ int image_load(const char *path, struct table tables[TABLES]) {
     if (file == NULL && errno == ENOENT) return 1;
     const char *wrong = file == NULL ? strerror(errno) : take_rows(file, tables, &at);
     if (file != NULL) fclose(file);
-    if (wrong != NULL) complain("the image %s, line %u: %s", path, at, wrong);
+    if (file == NULL) complain("the image %s cannot be read: %s", path, wrong);
+    else if (wrong != NULL) complain("the image %s, line %u: %s", path, at, wrong);
     return wrong == NULL;
 }
 
-/* --- to the file ---------------------------------------------------------------------------------------------------- */
+/* --- to the file -------------------------------------------------------------------------------------------------- */
 
 static void put_rows(FILE *file, const struct table tables[TABLES]) {
     for (int t = 0; t < TABLES; t++) {
@@ -101,7 +102,8 @@ static void put_rows(FILE *file, const struct table tables[TABLES]) {
 static int sync_directory(const char *path) {
     char directory[PATH_MAX];
     const char *slash = strrchr(path, '/');
-    snprintf(directory, sizeof directory, "%.*s", slash == NULL ? 1 : (int)(slash - path) + 1, slash == NULL ? "." : path);
+    snprintf(directory, sizeof directory, "%.*s", slash == NULL ? 0 : (int)(slash - path) + 1, path);
+    if (slash == NULL) strcpy(directory, ".");
     int fd = open(directory, O_RDONLY | O_CLOEXEC);
     if (fd < 0) return 0;
     int done = fsync(fd) == 0 || errno == EINVAL; /* some file systems cannot sync a directory, and need not */

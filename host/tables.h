@@ -15,8 +15,8 @@ struct table {
 /* Every cell zero. Answers 0 where there is no memory. */
 int tables_make(struct table tables[TABLES], const size_t cells[TABLES]);
 
-/* Both answer 0 after a line on standard error. A file that is not there is an image of zeros; one that is not whole, or
- * names what the tables do not have, is refused. */
+/* Both answer 0 after a line on standard error. A file that is not there is an image of zeros; one that is not whole,
+ * or names what the tables do not have, is refused. */
 int image_load(const char *path, struct table tables[TABLES]);
 /* Written whole to a new file beside it, which then takes its name: at every moment one whole image stands at `path`,
  * and when this answers 1 it is the new one, on the disk. */

@@ -27,7 +27,7 @@ int tcp_open(struct tcp *t, struct options *o) {
     return 1;
 }
 
-/* --- one client ----------------------------------------------------------------------------------------------------- */
+/* --- one client --------------------------------------------------------------------------------------------------- */
 
 static void dismiss(struct client *c, struct station *s, const char *why) {
     log_event(s->log, c->name, why);
@@ -35,7 +35,7 @@ static void dismiss(struct client *c, struct station *s, const char *why) {
     c->fd = -1;
 }
 
-/* Of the frame at the head of `in`, whose header is there: how many bytes follow, and whether a frame can have so many. */
+/* Of the frame at the head of `in`, whose header is there: how many bytes follow; and whether none has so many. */
 static size_t length_field(const struct client *c) { return (size_t)c->in[4] << 8 | c->in[5]; }
 static int is_lost(size_t field) { return field < LENGTH_LEAST || field > LENGTH_MOST; }
 
@@ -96,7 +96,7 @@ static void answer(struct tcp *t, struct client *c, struct station *s, int64_t n
     }
 }
 
-/* --- all of them ---------------------------------------------------------------------------------------------------- */
+/* --- all of them -------------------------------------------------------------------------------------------------- */
 
 /* A place for a new client. Where all are taken, the client that has been silent longest gives way, as the TCP guide
  * has it. */

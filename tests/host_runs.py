@@ -12,8 +12,8 @@ import tempfile
 import threading
 import time
 
-from serving import (QUIET, Client, Line, Server, Wrong, ascii_line, asked, check, rtu, run, same, soon, tcp, values_of,
-                     words)
+from serving import (PATIENCE, QUIET, Client, Line, Server, Wrong, ascii_line, asked, check, rtu, run, same, soon, tcp,
+                     values_of, words)
 
 PRESET = """dalonjang tables
 # values that no client can write, and some that it can
@@ -45,7 +45,7 @@ class Preset(Server):
         os.unlink(self.image.name)
 
 
-# --- requests -------------------------------------------------------------------------------------------------------
+# --- requests ---------------------------------------------------------------------------------------------------------
 
 def exchange(end, wrap, body, wanted):
     """One request over a client or a line, and its reply, b"" for none."""
@@ -115,8 +115,8 @@ def test_ascii_requests(program):
 def test_one_set_of_tables(program):
     """What one client writes, all others read, at once."""
     with Line() as first, Line() as second, \
-            Server(program, "--rtu", first.path, "--ascii", second.path, "--unit", "9", "--broadcast", "7,8") as server, \
-            Client(server.port) as client:
+            Server(program, "--rtu", first.path, "--ascii", second.path, "--unit", "9", "--broadcast", "7,8") \
+            as server, Client(server.port) as client:
         exchange(first, rtu, asked(6, 1, 11, unit=9), asked(6, 1, 11, unit=9))
         exchange(second, ascii_line, asked(6, 2, 22, unit=8), b"")
         exchange(client, tcp, asked(6, 3, 33, unit=7), b"")
@@ -125,7 +125,7 @@ def test_one_set_of_tables(program):
             exchange(end, wrap, asked(3, 1, 3, unit=9), bytes([9, 3, 6]) + words(11, 22, 33))
 
 
-# --- streams --------------------------------------------------------------------------------------------------------
+# --- streams ----------------------------------------------------------------------------------------------------------
 
 def test_pieces(program):
     """However the bytes of a TCP stream are grouped, the replies are the same."""
@@ -190,16 +190,17 @@ def test_replies_not_taken(program):
     with Preset(program, "--patience", "1") as server, Client(server.port) as good, \
             Client(server.port, receive_room=4096) as greedy:
         greedy.socket.setblocking(False)
-        many, end = tcp(asked(3, 0, 125)) * 100, time.monotonic() + 15
-        while not any("does not take" in line for line in server.log()):
+        many, end, closed = tcp(asked(3, 0, 125)) * 100, time.monotonic() + PATIENCE, False
+        while not closed:
             check(time.monotonic() < end, "a client that takes no replies is not closed")
             try:
                 greedy.socket.send(many)
             except BlockingIOError:
                 time.sleep(0.02)
             except ConnectionError:
-                pass
+                closed = True
             same(good.ask(READ), READ_REPLY, "the reply to the good client")
+        check(any("does not take" in line for line in server.log()), "why it was closed is not logged")
 
 
 def test_broken_streams(program):
@@ -213,7 +214,7 @@ def test_broken_streams(program):
                 same(client.receive(13), tcp(READ_REPLY, 99), f"the reply after {broken[:8].hex()}")
         for field in (0, 1, 255, 256, 65535):
             with Client(server.port) as client:
-                client.send(tcp(READ, 5) + b"\0\6\0\0" + words(field) + 300 * b"\x01")
+                client.send(tcp(READ, 5) + b"\0\6\0\0" + words(field) + 5000 * b"\x01")
                 same(client.closed(), tcp(READ_REPLY, 5), f"what comes before a length of {field} ends it")
         with Client(server.port) as client:
             client.send(b"GET / HTTP/1.1\r\n\r\n")
@@ -251,7 +252,7 @@ def test_places(program):
             same(first.ask(READ), READ_REPLY, "the first client's reply")
 
 
-# --- serial lines ---------------------------------------------------------------------------------------------------
+# --- serial lines -----------------------------------------------------------------------------------------------------
 
 def test_rtu_silence(program):
     """Pieces without silence between them are one frame, with silence several."""
@@ -307,10 +308,10 @@ def test_lost_line(program):
     with Line() as line, Server(program, "--rtu", line.path, "--no-tcp") as server:
         same(server.port, None, "the port")
         line.close()
-        same(server.process.wait(20), 1, "the status without the only line")
+        same(server.process.wait(PATIENCE), 1, "the status without the only line")
 
 
-# --- image and log --------------------------------------------------------------------------------------------------
+# --- image and log ----------------------------------------------------------------------------------------------------
 
 def test_image_comes_back(program):
     room = tempfile.mkdtemp()
@@ -348,27 +349,36 @@ def test_wrong_images(program):
             check(f"line {line}: " in said[0], f"the line at fault in {text!r}: {said[0]}")
 
 
+def write_until_killed(server, client, value, killer):
+    """Writes 100 registers again and again, each time one more in all of them; the last value that was confirmed."""
+    try:
+        while True:
+            client.ask(asked(16, 0, 100, words(*100 * [value + 1])))
+            value += 1
+            killer(value)
+    except (Wrong, OSError):
+        server.process.wait()
+    return value
+
+
 def test_killed(program):
-    """Killed at any moment, the server has in its image every write that it confirmed, whole."""
+    """Killed at any moment, or right after a reply, the server has all that it confirmed in its image, whole."""
     chance, value = random.Random(1), 0
     room = tempfile.mkdtemp()
     options = ("--image", os.path.join(room, "image"), "--holdings", "65536")
     try:
-        for _ in range(10):
+        for n in range(14):
             with Server(program, *options) as server, Client(server.port) as client:
                 got = values_of(client.ask(asked(3, 0, 100)))
-                check(got in (100 * [value], 100 * [value + 1]), f"after {value}, which was confirmed, there is {got}")
-                value = got[0]
-                threading.Timer(chance.uniform(0.02, 0.3), server.process.kill).start()
-                try:
-                    while True:
-                        client.ask(asked(16, 0, 100, words(*100 * [value + 1])))
-                        value += 1
-                except (Wrong, OSError):
-                    server.process.wait()
+                check(got in (100 * [value], 100 * [value + 1]), f"after {value} was confirmed there is {set(got)}")
+                last = got[0] + n
+                if n % 2 == 0:
+                    threading.Timer(chance.uniform(0.02, 0.3), server.process.kill).start()
+                value = write_until_killed(server, client, got[0],
+                                           lambda now: server.process.kill() if n % 2 and now >= last else None)
     finally:
         shutil.rmtree(room)
-    check(value > 20, f"only {value} writes in all")
+    check(value > 40, f"only {value} writes in all")
 
 
 def test_image_that_cannot_be_saved(program):
@@ -377,7 +387,7 @@ def test_image_that_cannot_be_saved(program):
         shutil.rmtree(room)
         client.send(tcp(asked(6, 0, 1)))
         same(client.closed(), b"", "the reply to a write that is not kept")
-        same(server.process.wait(20), 1, "the status")
+        same(server.process.wait(PATIENCE), 1, "the status")
         check("cannot be saved" in server.output(), "no word of it")
 
 
@@ -387,7 +397,8 @@ def test_log(program):
         (READ, "Answered, reply ", READ_REPLY), (asked(6, 7, 1), "Answered, wrote holdings 7, reply ", asked(6, 7, 1)),
         (asked(16, 4, 2, words(1, 2)), "Answered, wrote holdings 4 to 5, reply ", asked(16, 4, 2)),
         (asked(15, 9, 2, b"\3"), "Answered, wrote coils 9 to 10, reply ", asked(15, 9, 2)),
-        (asked(3, 999, 2), "Exception 2, reply ", b"\1\x83\2"), (asked(5, 1, 0, unit=0), "BroadcastDone, wrote coils 1", b""),
+        (asked(3, 999, 2), "Exception 2, reply ", b"\1\x83\2"),
+        (asked(5, 1, 0, unit=0), "BroadcastDone, wrote coils 1", b""),
         (asked(3, 1, 1, unit=0), "BroadcastIgnored", b""), (asked(5, 1, 1, unit=0), "BroadcastIgnored 3", b""),
         (asked(6, 1, 1, unit=2), "Foreign", b""), (READ[:4], "FrameBroken", b""), (READ + b"\0", "WrongLength", b""),
         (b"\1\x80" + READ[2:], "BadFunction", b""), (READ, "Answered, reply ", READ_REPLY))
@@ -414,7 +425,8 @@ def test_first_lines(program):
         same(server.output().splitlines(), [
             f"dalonjang: Modbus TCP on 127.0.0.1:{server.port}",
             "unit 17, broadcast none; cells: 5 coils, 5 discretes, 5 holdings, 0 inputs",
-            f"try: mbpoll -m tcp -p {server.port} -a 17 -t 4 -r 1 -c 4 -1 127.0.0.1", "Control-C ends it."], "the first lines")
+            f"try: mbpoll -m tcp -p {server.port} -a 17 -t 4 -r 1 -c 4 -1 127.0.0.1",
+            "Control-C ends it."], "the first lines")
 
 
 def test_signals(program):
@@ -460,7 +472,7 @@ def main():
         except (Wrong, OSError, subprocess.TimeoutExpired) as fault:
             print(f"wrong: {name}: {fault}")
             return 1
-    print(f"{len(names or tests)} tests, all as they should be: {', '.join(n.replace('_', ' ') for n in names or tests)}")
+    print(f"{len(names or tests)} tests, all as they should be: {', '.join(names or tests).replace('_', ' ')}")
     return 0
 
 

@@ -12,13 +12,14 @@ COIL, DISCRETE, INPUT, HOLDING = "0", "1", "3", "4"
 class Mbpoll:
     def __init__(self, transport, where):
         serial = transport == "rtu"
-        self.options = ["-m", transport, "-0", "-1", "-q", *(["-b", "19200", "-P", "even"] if serial else ["-p", where])]
+        self.options = ["-m", transport, "-0", "-1", "-q", *(["-b", "19200"] if serial else ["-p", where])]
         self.where = where if serial else "127.0.0.1"
 
     def run(self, unit, table, start, *more):
         """Its status, and all that it says."""
         command = ["mbpoll", *self.options, "-a", str(unit), "-t", table, "-r", str(start), *more]
-        done = subprocess.run(command, stdout=subprocess.PIPE, stderr=subprocess.STDOUT, text=True, timeout=30, check=False)
+        done = subprocess.run(command, stdout=subprocess.PIPE, stderr=subprocess.STDOUT, text=True, timeout=30,
+                              check=False)
         return done.returncode, done.stdout
 
     def read(self, table, start, count):

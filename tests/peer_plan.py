@@ -9,7 +9,8 @@ DISCRETES = [1, 0, 1, 1]
 INPUTS = [17, 4660]
 LAST_HOLDING = 4711
 COILS_SET = [1, 0, 1]
-MOST_WRITTEN = {"tcp": (1944, 121), "rtu": (1968, 123), "ascii": (1968, 123)}  # coils, registers: by document 01's bounds
+# coils and registers in one frame, by document 01's bounds
+MOST_WRITTEN = {"tcp": (1944, 121), "rtu": (1968, 123), "ascii": (1968, 123)}
 
 IMAGE = f"""dalonjang tables
 discretes 0 {' '.join(map(str, DISCRETES))}

@@ -110,8 +110,8 @@ def main(transport, where, base):
     peer.unanswered("write_register", base + 200, 7, unit=2)
     peer.unanswered("write_register", base + 201, 77, unit=0)
     same(peer.registers("read_holding_registers", base + 200, 2), [0, 77], "after another unit's write and a broadcast")
-    return f"1 2 3 4 5 6 15 16; 2000 coils and 125 registers read, {most[0]} and {most[1]} written; exceptions 1 2 3; " \
-           f"another unit; broadcast"
+    return f"1 2 3 4 5 6 15 16; 2000 coils and 125 registers read, {most[0]} and {most[1]} written; " \
+           "exceptions 1 2 3; another unit; broadcast"
 
 
 if __name__ == "__main__":

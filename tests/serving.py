@@ -8,12 +8,14 @@ import signal
 import socket
 import struct
 import subprocess
+import sys
 import tempfile
 import time
 import tty
 
-PATIENCE = 15  # seconds within which whatever is due must come, on a busy machine too
-QUIET = 0.4    # seconds without a byte that count as "no reply"
+# seconds within which whatever is due must come, on a busy machine too; less where something wrong is awaited
+PATIENCE = float(os.environ.get("PATIENCE", "20"))
+QUIET = 0.4  # seconds without a byte that count as "no reply"
 
 
 class Wrong(Exception):
@@ -26,6 +28,9 @@ def check(fine, what):
 
 
 def same(got, wanted, what):
+    if got != wanted and isinstance(wanted, list):  # the first entry that differs says enough
+        at = next((n for n, pair in enumerate(zip(got, wanted)) if pair[0] != pair[1]), min(len(got), len(wanted)))
+        got, wanted, what = got[at:at + 1], wanted[at:at + 1], f"{what}, entry {at}"
     check(got == wanted, f"{what}: {shown(got)} in place of {shown(wanted)}")
 
 
@@ -41,7 +46,7 @@ def soon(condition, what):
         time.sleep(0.02)
 
 
-# --- frames ---------------------------------------------------------------------------------------------------------
+# --- frames -----------------------------------------------------------------------------------------------------------
 
 def asked(function, start, count, data=None, unit=1):
     """A request from the unit byte on."""
@@ -79,11 +84,12 @@ def ascii_line(body):
     return b":" + (body + bytes([-sum(body) & 0xFF])).hex().upper().encode() + b"\r\n"
 
 
-# --- the server -----------------------------------------------------------------------------------------------------
+# --- the server -------------------------------------------------------------------------------------------------------
 
 def run(program, *options):
     """Of a server that shall not start: status, standard output, lines of standard error."""
-    done = subprocess.run(["bin/x86run", program, *options], capture_output=True, text=True, timeout=PATIENCE, check=False)
+    done = subprocess.run(["bin/x86run", program, *options], capture_output=True, text=True, timeout=PATIENCE,
+                          check=False)
     return done.returncode, done.stdout, done.stderr.splitlines()
 
 
@@ -99,12 +105,12 @@ class Server:
         self.port = None
 
     def __enter__(self):
-        try:
-            soon(lambda: "Control-C" in self.output() or self.process.poll() is not None, "the server does not start")
-            check(self.process.poll() is None, f"the server ended: {self.output()}")
-        except Wrong:
-            self.kill()
-            raise
+        end = time.monotonic() + 60
+        while "Control-C" not in self.output():
+            if self.process.poll() is not None or time.monotonic() > end:
+                self.kill()
+                sys.exit(f"the server does not start: {self.output()}")  # no test has seen anything then
+            time.sleep(0.02)
         first = self.output().splitlines()[0]
         self.port = int(first.rpartition(":")[2]) if "TCP" in first else None
         return self
@@ -136,7 +142,7 @@ class Server:
         self.process.wait()
 
 
-# --- who asks -------------------------------------------------------------------------------------------------------
+# --- who asks ---------------------------------------------------------------------------------------------------------
 
 class Client:
     """One TCP connection."""
@@ -155,6 +161,7 @@ class Client:
     def receive(self, length):
         got = b""
         while len(got) < length:
+            check(not self.is_quiet(PATIENCE), f"{len(got)} of {length} bytes came: {shown(got)}")
             more = self.socket.recv(length - len(got))
             check(more, f"the server closed after {len(got)} of {length} bytes")
             got += more
@@ -177,11 +184,10 @@ class Client:
         return not select.select([self.socket], [], [], seconds)[0]
 
     def closed(self):
-        """What still comes until the server closes."""
+        """What still comes until the server closes; a connection that is reset may lose some, and is an error."""
         rest = b""
-        with contextlib.suppress(ConnectionResetError):
-            while more := self.socket.recv(65536):
-                rest += more
+        while more := self.socket.recv(65536):
+            rest += more
         return rest
 
     def close(self):
@@ -208,7 +214,7 @@ class Line:
     def receive(self, length):
         got = b""
         while len(got) < length:
-            check(select.select([self.master], [], [], PATIENCE)[0], f"{len(got)} of {length} bytes came: {shown(got)}")
+            check(not self.is_quiet(PATIENCE), f"{len(got)} of {length} bytes came: {shown(got)}")
             got += os.read(self.master, length - len(got))
         return got
 
