@@ -1,5 +1,6 @@
 """host_runs PROGRAM [TEST..]: the server of host/ by plain clients: requests, streams, many clients, serial lines,
-image, log, options, signals. All tests if none is named.
+image, log, options, signals. All tests if none is named. STREAMS=number and KILLS=number in the environment for more
+random streams (300) and more kills between two starts (14).
 Status: 0 all as said, 1 something is wrong (a line says what)."""
 import os
 import random
@@ -227,7 +228,7 @@ def test_noise(program):
     """Random streams: noise, and frames with a byte changed, lost or added; the server goes on."""
     chance = random.Random(1)
     with Preset(program, "--patience", "1") as server, Client(server.port) as good:
-        for n in range(300):
+        for n in range(int(os.environ.get("STREAMS", "300"))):
             with Client(server.port) as client:
                 stream = bytearray()
                 for _ in range(chance.randrange(1, 20)):
@@ -367,7 +368,7 @@ def test_killed(program):
     room = tempfile.mkdtemp()
     options = ("--image", os.path.join(room, "image"), "--holdings", "65536")
     try:
-        for n in range(14):
+        for n in range(int(os.environ.get("KILLS", "14"))):
             with Server(program, *options) as server, Client(server.port) as client:
                 got = values_of(client.ask(asked(3, 0, 100)))
                 check(got in (100 * [value], 100 * [value + 1]), f"after {value} was confirmed there is {set(got)}")
@@ -381,7 +382,7 @@ def test_killed(program):
     check(value > 40, f"only {value} writes in all")
 
 
-def test_image_that_cannot_be_saved(program):
+def test_image_not_saved(program):
     room = tempfile.mkdtemp()
     with Server(program, "--image", os.path.join(room, "image")) as server, Client(server.port) as client:
         shutil.rmtree(room)
