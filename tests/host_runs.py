@@ -257,20 +257,20 @@ def test_places(program):
 
 def test_rtu_silence(program):
     """Pieces without silence between them are one frame, with silence several."""
-    with Line() as line, Preset(program, "--rtu", line.path, "--silence", "400") as server:
+    with Line() as line, Preset(program, "--rtu", line.path, "--silence", "700") as server:
         frame = rtu(READ)
         for at in range(8):
             line.send(frame[at:at + 1])
-            time.sleep(0.07)
+            time.sleep(0.12)
         same(line.receive(9), rtu(READ_REPLY), "the reply to a frame in pieces")
         line.send(frame[:5])
-        time.sleep(1.5)
+        time.sleep(2)
         line.send(frame[5:])
-        check(line.is_quiet(1.5), "a frame with a silence in it is answered")
+        check(line.is_quiet(2), "a frame with a silence in it is answered")
         line.send(bytes(255))
         time.sleep(0.01)
         line.send(bytes(300))
-        check(line.is_quiet(1.5), "an overlong frame is answered")
+        check(line.is_quiet(2), "an overlong frame is answered")
         exchange(line, rtu, READ, READ_REPLY)
         outcomes = [(len(line.split()[2]) // 2, line.split()[3].strip(",")) for line in server.log()]
         same(outcomes, [(8, "Answered"), (5, "FrameCheck"), (3, "FrameBroken"), (257, "FrameBroken"), (8, "Answered")],

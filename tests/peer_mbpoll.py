@@ -12,7 +12,7 @@ COIL, DISCRETE, INPUT, HOLDING = "0", "1", "3", "4"
 class Mbpoll:
     def __init__(self, transport, where):
         serial = transport == "rtu"
-        self.options = ["-m", transport, "-0", "-1", "-q", *(["-b", "19200"] if serial else ["-p", where])]
+        self.options = ["-m", transport, "-0", "-1", *(["-b", "19200"] if serial else ["-p", where])]
         self.where = where if serial else "127.0.0.1"
 
     def run(self, unit, table, start, *more):

@@ -60,7 +60,7 @@ def alone(program, name, transport, image):
             options += [f"--{transport}", own, "--silence", "20"]
         server = stack.enter_context(Server(program, *options))
         said = outcome(name, start(name, transport, where or server.port, 0))
-        print(f"{name} over {transport.upper()}: {said}", flush=True)
+        print(f"{name} over {transport.upper()}: functions {said}", flush=True)
 
 
 BROKEN = (b"GET / HTTP/1.1\r\n\r\n", b"\0\1\0\0\xff\xff" + bytes(300), b"\0\1\0\0\0\0", tcp(asked(3, 0, 1))[:9],
