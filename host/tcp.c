@@ -5,7 +5,7 @@
 #include <netinet/tcp.h>
 #include <sys/socket.h>
 
-static const int on = 1;
+static const int on = 1, send_room = 16384; /* replies that a client may leave untaken, beside those in its outbox */
 
 int tcp_open(struct tcp *t, struct options *o) {
     struct sockaddr_in here = {.sin_family = AF_INET, .sin_port = htons((uint16_t)o->port), .sin_addr = {o->ip}};
@@ -126,6 +126,7 @@ static void welcome(struct tcp *t, struct station *s, int64_t now) {
     log_event(s->log, c->name, "came");
     setsockopt(fd, IPPROTO_TCP, TCP_NODELAY, &on, sizeof on);
     setsockopt(fd, SOL_SOCKET, SO_KEEPALIVE, &on, sizeof on);
+    setsockopt(fd, SOL_SOCKET, SO_SNDBUF, &send_room, sizeof send_room);
     if (fcntl(fd, F_SETFL, O_NONBLOCK) != 0) dismiss(c, s, "lost");
 }
 

@@ -15,8 +15,9 @@ _Static_assert(O_RDWR == 2 && O_NOCTTY == 0400 && O_NONBLOCK == 04000 && O_CLOEX
 _Static_assert(EAGAIN == 11 && EINTR == 4 && ENOENT == 2 && EINVAL == 22, "errno");
 _Static_assert(SIGINT == 2 && SIGPIPE == 13 && SIGTERM == 15, "signals");
 _Static_assert(POLLIN == 1 && POLLOUT == 4 && POLLERR == 8 && POLLHUP == 16 && sizeof(struct pollfd) == 8, "poll");
-_Static_assert(AF_INET == 2 && SOCK_STREAM == 1 && SOL_SOCKET == 1 && SO_REUSEADDR == 2 && SO_KEEPALIVE == 9
-    && SHUT_WR == 1 && IPPROTO_TCP == 6 && TCP_NODELAY == 1 && sizeof(struct sockaddr_in) == 16, "sockets");
+_Static_assert(AF_INET == 2 && SOCK_STREAM == 1 && SOL_SOCKET == 1 && SO_REUSEADDR == 2 && SO_SNDBUF == 7
+    && SO_KEEPALIVE == 9 && SHUT_WR == 1 && IPPROTO_TCP == 6 && TCP_NODELAY == 1
+    && sizeof(struct sockaddr_in) == 16, "sockets");
 _Static_assert(CSIZE == 060 && CS7 == 040 && CS8 == 060 && CSTOPB == 0100 && CREAD == 0200 && PARENB == 0400
     && PARODD == 01000 && CLOCAL == 04000 && INPCK == 020 && IGNPAR == 04, "terminal flags");
 _Static_assert(B1200 == 011 && B2400 == 013 && B4800 == 014 && B9600 == 015 && B19200 == 016 && B38400 == 017

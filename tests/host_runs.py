@@ -430,6 +430,18 @@ def test_first_lines(program):
             "Control-C ends it."], "the first lines")
 
 
+def test_address(program):
+    """It listens where it is told and nowhere else."""
+    with Server(program, "--address", "127.0.0.2") as server:
+        with Client(server.port, address="127.0.0.2") as client:
+            same(values_of(client.ask(asked(3, 0, 1))), [0], "the register read at the address")
+        try:
+            Client(server.port).close()
+        except ConnectionRefusedError:
+            return
+        raise Wrong("another address is served as well")
+
+
 def test_signals(program):
     for by in (signal.SIGINT, signal.SIGTERM):
         with Preset(program) as server, Client(server.port) as client:

@@ -147,12 +147,12 @@ class Server:
 class Client:
     """One TCP connection."""
 
-    def __init__(self, port, receive_room=None):
+    def __init__(self, port, receive_room=None, address="127.0.0.1"):
         self.socket = socket.socket()
         if receive_room:
             self.socket.setsockopt(socket.SOL_SOCKET, socket.SO_RCVBUF, receive_room)
         self.socket.settimeout(PATIENCE)
-        self.socket.connect(("127.0.0.1", port))
+        self.socket.connect((address, port))
         self.transaction = random.randrange(65536)
 
     def send(self, stream):
