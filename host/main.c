@@ -6,6 +6,9 @@
 #include "station.h"
 #include "tcp.h"
 #include <signal.h>
+#include <sys/resource.h>
+
+enum { SPARE_DESCRIPTORS = 16 }; /* for standard input and output, log, image, listener, and those of an emulator */
 
 struct host {
     struct station station;
@@ -41,8 +44,19 @@ static int open_log(struct station *s, const char *path) {
     return s->log != NULL;
 }
 
+/* Descriptors must not run out later: a client could then not be let in, nor an image saved. */
+static int enough_descriptors(const struct options *o) {
+    struct rlimit most;
+    size_t needed = o->clients + o->lines + SPARE_DESCRIPTORS;
+    if (getrlimit(RLIMIT_NOFILE, &most) != 0 || most.rlim_cur >= needed) return 1;
+    complain("--clients %zu needs %zu open files, and only %zu are allowed (ulimit -n)", o->clients, needed,
+        (size_t)most.rlim_cur);
+    return 0;
+}
+
 static int begin(struct host *h, struct options *o) {
     struct station *s = &h->station;
+    if (!enough_descriptors(o)) return 0;
     s->unit = (uint8_t)o->unit;
     s->list_len = o->list_len;
     memcpy(s->list, o->list, sizeof s->list);

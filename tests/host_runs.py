@@ -10,6 +10,7 @@ import socket
 import subprocess
 import sys
 import tempfile
+import termios
 import threading
 import time
 
@@ -299,6 +300,17 @@ def test_ascii_stream(program):
         exchange(line, ascii_line, READ, READ_REPLY)
 
 
+def test_line_settings(program):
+    """Speed and stop bits as asked for; a pseudo terminal has neither parity nor seven bits."""
+    for options, speed, two_stop_bits in (((), termios.B19200, False), (("--baud", "1200"), termios.B1200, False),
+                                          (("--baud", "115200", "--mode", "8N2"), termios.B115200, True)):
+        with Line() as line, Preset(program, "--rtu", line.path, *options):
+            _, _, flags, local, in_speed, out_speed, _ = termios.tcgetattr(line.other)
+            same((in_speed, out_speed, bool(flags & termios.CSTOPB)), (speed, speed, two_stop_bits), f"with {options}")
+            check(not local & (termios.ECHO | termios.ICANON), "the line is not raw")
+            exchange(line, rtu, READ, READ_REPLY)
+
+
 def test_lost_line(program):
     """A line that goes away leaves the rest alone; without any other the server ends with 1."""
     with Line() as line, Preset(program, "--rtu", line.path) as server, Client(server.port) as client:
@@ -474,6 +486,9 @@ def test_what_cannot_start(program):
             status, text, said = run(program, *options)
             same((status, text, len(said)), (1, "", 1), f"status, output and lines after {' '.join(options)}")
             check(words_said in said[0], f"what is said after {' '.join(options)}: {said[0]}")
+    status, text, said = run(program, "--port", "0", descriptors=40)
+    same((status, text, len(said)), (1, "", 1), "status, output and lines where too few files can be open")
+    check("32 needs 48 open files" in said[0], f"what is said where too few files can be open: {said[0]}")
 
 
 def main():

@@ -86,10 +86,10 @@ def ascii_line(body):
 
 # --- the server -------------------------------------------------------------------------------------------------------
 
-def run(program, *options):
+def run(program, *options, descriptors=1024):
     """Of a server that shall not start: status, standard output, lines of standard error."""
-    done = subprocess.run(["bin/x86run", program, *options], capture_output=True, text=True, timeout=PATIENCE,
-                          check=False)
+    command = ["bash", "-c", f'ulimit -Sn {descriptors} && exec bin/x86run "$@"', "bash", program, *options]
+    done = subprocess.run(command, capture_output=True, text=True, timeout=PATIENCE, check=False)
     return done.returncode, done.stdout, done.stderr.splitlines()
 
 
