@@ -85,11 +85,14 @@ wrong_server() {
 }
 
 # saw STATUS LOG WHO WHAT: a test sees a wrong server when it says what is wrong and ends with 1; both are counted, and
-# what each saw is added to out/wrong-servers.log
+# what each said is kept in out/host-runs-wrong.log or out/peers-wrong.log
 tried=0 seen=0
 saw() {
+    local all
+    all=out/$(basename "$0")-wrong.log
+    [ $tried != 0 ] || : >"$all"
     tried=$((tried + 1))
-    echo "$4; $3 says: $(tail -n 1 "$2")" >>out/wrong-servers.log
+    echo "$4; $3 says: $(tail -n 1 "$2")" >>"$all"
     if [ "$1" = 1 ] && grep -q '^wrong: ' "$2"; then
         seen=$((seen + 1))
     else

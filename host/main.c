@@ -22,7 +22,8 @@ static int wake_up; /* the other end of `wake`, for the handler */
 
 static void on_signal(int signal_number) {
     int before = errno;
-    if (write(wake_up, &(char){(char)signal_number}, 1) < 0) errno = before; /* full: it is awake already */
+    ssize_t written = write(wake_up, "", 1);
+    (void)signal_number, (void)written; /* none, where the pipe is full: then it is awake already */
     errno = before;
 }
 
@@ -47,7 +48,7 @@ static int open_log(struct station *s, const char *path) {
 /* Descriptors must not run out later: a client could then not be let in, nor an image saved. */
 static int enough_descriptors(const struct options *o) {
     struct rlimit most;
-    size_t needed = o->clients + o->lines + SPARE_DESCRIPTORS;
+    size_t needed = (o->no_tcp ? 0 : o->clients) + o->lines + SPARE_DESCRIPTORS;
     if (getrlimit(RLIMIT_NOFILE, &most) != 0 || most.rlim_cur >= needed) return 1;
     complain("--clients %zu needs %zu open files, and only %zu are allowed (ulimit -n)", o->clients, needed,
         (size_t)most.rlim_cur);
