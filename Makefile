@@ -1,7 +1,7 @@
 # The README's commands. `make test` is what .ci/run calls; its last line is rt ci's 'N passed, 0 failed'.
-.PHONY: test beside driver-runs prove lib serve clean
+.PHONY: test beside driver-runs host-runs peers prove lib serve clean
 
-test: beside driver-runs prove
+test: beside driver-runs host-runs peers prove
 
 # the ported calls beside the Rust they are ported from, on the same bytes (CALLS="5000000 2000000" for more)
 beside:
@@ -10,6 +10,14 @@ beside:
 # the C library as firmware calls it: known answers, random calls, whole frames beside the Rust (RUNS="5000000 5000000" for more)
 driver-runs:
 	@bin/driver-runs $(RUNS)
+
+# the server of host/ by a client of our own: streams, clients, lines, image, options
+host-runs:
+	@bin/host-runs
+
+# the server and mbpoll, pymodbus and libmodbus, as far as their packages can be had
+peers:
+	@bin/peers
 
 # every crate proved from nothing, the must-fail edits refused, the programs run
 prove:
@@ -20,8 +28,9 @@ lib:
 	@mkdir -p out && rt staticlib dalonjang >out/lib.log 2>&1 || { cat out/lib.log >&2; exit 1; }
 	@echo 'target/staticlib/libdalonjang.a, with include/dalonjang.h'
 
+# a Modbus server on 127.0.0.1:1502 (ARGS="--port 1503" for other options, ARGS=--help lists them)
 serve:
-	@echo 'dalonjang: there is no server yet: the driver is there as a C library (make lib), the program around it is not' >&2; exit 1
+	@bin/serve $(ARGS)
 
 clean:
 	rm -rf out target

@@ -1,4 +1,4 @@
-# For bin/beside and bin/driver-runs, which source it: what the runs beside the Rust need, from packages to the oracle.
+# For the programs of bin/, which source it: what they need, from packages to the oracle and the server.
 # shellcheck shell=bash
 source=../shared/docs/src/src # the crate's source stands beside the repository, never in it
 vectors=out/oracle/target/oracle/vectors
@@ -17,18 +17,26 @@ logged() {
     "$@" >"$log" 2>&1 || { cat "$log" >&2; fail "failed: $*"; }
 }
 
-# packages [rust]: a C compiler's headers, and Rust where it is said
+# can_install: whether this machine lets us, after which it knows what there is; fetch PACKAGE..: does it
+can_install() {
+    [ "$(id -u)" = 0 ] && command -v apt-get >/dev/null && apt-get update >out/packages.log 2>&1
+}
+fetch() {
+    DEBIAN_FRONTEND=noninteractive apt-get install -y --no-install-recommends "$@"
+}
+
+# packages [rust|python]: a C compiler's headers, and Rust or Python where it is said
 packages() {
-    local c='' rust=''
+    local c='' rust='' python=''
     { [ -e /usr/include/stdio.h ] && command -v gcc >/dev/null; } || c='gcc libc6-dev'
     [ "${1:-}" != rust ] || command -v cargo >/dev/null || rust='cargo rustc'
-    [ -z "$c$rust" ] && return
-    { [ "$(id -u)" = 0 ] && command -v apt-get >/dev/null; } || fail "these packages are missing: $c $rust"
-    logged packages apt-get update
+    [ "${1:-}" != python ] || [ -x /usr/bin/python3 ] || python='python3'
+    [ -z "$c$rust$python" ] && return
+    can_install || fail "these packages are missing: $c $rust $python"
     # the crate wants Rust 1.81; in Debian 12 only the packages -web are new enough
     if [ -n "$rust" ] && apt-cache show cargo-web >/dev/null 2>&1; then rust='cargo-web rustc-web'; fi
     # shellcheck disable=SC2086
-    logged packages env DEBIAN_FRONTEND=noninteractive apt-get install -y --no-install-recommends $c $rust
+    logged packages fetch $c $rust $python
 }
 
 # put FROM TO: copied only where it differs, so that cargo builds again exactly what changed
@@ -57,6 +65,38 @@ library() {
             logged staticlib rt staticlib "$crate"
             LIB="${LIB:-} target/staticlib/lib$crate.a"
         done
+    fi
+}
+
+# build_server NAME [FOLDER]: out/NAME, the server of host/ or of a copy of it, around the library
+build_server() {
+    logged x86cc bin/x86cc -Werror -Iinclude -o "out/$1" "${2:-host}"/*.c $LIB
+}
+
+# wrong_server FILE OLD NEW: out/wrong, the server with one place in FILE of host/ changed
+wrong_server() {
+    local text
+    text=$(<"host/$1")
+    [[ $text == *"$2"* ]] || fail "host/$1 has no '$2' that could be changed"
+    rm -rf out/wrong-host
+    cp -r host out/wrong-host
+    printf '%s\n' "${text%%"$2"*}$3${text#*"$2"}" >"out/wrong-host/$1"
+    build_server wrong out/wrong-host
+}
+
+# saw STATUS LOG WHO WHAT: a test sees a wrong server when it says what is wrong and ends with 1; both are counted, and
+# what each said is kept in out/host-runs-wrong.log or out/peers-wrong.log
+tried=0 seen=0
+saw() {
+    local all
+    all=out/$(basename "$0")-wrong.log
+    [ $tried != 0 ] || : >"$all"
+    tried=$((tried + 1))
+    echo "$4; $3 says: $(tail -n 1 "$2")" >>"$all"
+    if [ "$1" = 1 ] && grep -q '^wrong: ' "$2"; then
+        seen=$((seen + 1))
+    else
+        echo "$(basename "$0"): $3 did not see a wrong server: $4 (status $1)" >&2
     fi
 }
 

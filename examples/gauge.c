@@ -1,0 +1,36 @@
+/* A booster gauge on an RTU line: all the code that a unit needs around the library. The calibration bench writes the
+ * pressure points (holdings 0 to 7), the dash reads the pressure (input 0) and the warning lamp (discrete 0), and says
+ * whether it wants the lamp (coil 0).
+ *
+ * The board calls uart_byte() for each byte that comes, line_quiet() when none came for 3.5 characters, and pressure()
+ * with each measurement; it has uart_send(). All of them in one thread, or with the interrupt off. */
+#include "dalonjang.h"
+
+void uart_send(const uint8_t *bytes, size_t len); /* the board's */
+
+enum { UNIT = 1, POINTS = 8, MOST = 256 };
+
+static uint8_t lamp_wanted[1], lamp[1], points[2 * POINTS], reading[2]; /* the four tables */
+static uint8_t frame[MOST + 1], reply[DALONJANG_REPLY_ROOM];
+static size_t have;
+
+void uart_byte(uint8_t byte) {
+    if (have <= MOST) frame[have++] = byte; /* one byte too many is kept, so that the frame is refused */
+}
+
+void line_quiet(void) {
+    static const uint8_t everyone[] = {0};
+    struct dalonjang_result r = dalonjang_drive(DALONJANG_RTU, UNIT, everyone, sizeof everyone,
+        lamp_wanted, sizeof lamp_wanted, 1, lamp, sizeof lamp, 1,
+        points, sizeof points, POINTS, reading, sizeof reading, 1,
+        frame, have, reply, sizeof reply);
+    have = 0;
+    if (r.length > 0) uart_send(reply, r.length);
+}
+
+void pressure(uint16_t raw) {
+    size_t n = raw >> 13; /* eight ranges, one pressure point each */
+    reading[0] = points[2 * n];
+    reading[1] = points[2 * n + 1];
+    lamp[0] = lamp_wanted[0] & (raw < 0x1000);
+}

@@ -1,0 +1,29 @@
+/* A serial line or pseudo terminal, as RTU or ASCII. */
+#ifndef LINE_H
+#define LINE_H
+#include "options.h"
+#include "outbox.h"
+#include "station.h"
+#include <poll.h>
+
+struct line {
+    int fd; /* -1: lost */
+    uint8_t transport;
+    char name[64];
+    uint8_t in[512]; /* one more than the longest ASCII frame; RTU uses half of it */
+    size_t have;
+    int64_t silence; /* in milliseconds: what ends an RTU frame, and drops an ASCII one */
+    int64_t since;   /* when the last byte came or went */
+    struct outbox out;
+};
+
+/* The termios speed for so many baud; 0 where there is none. */
+unsigned line_speed(size_t baud);
+
+/* Answers 0 after a line on standard error. */
+int line_open(struct line *l, const struct options *o, size_t which);
+struct pollfd line_wants(const struct line *l);
+int64_t line_due(const struct line *l);
+void line_hear(struct line *l, short events, struct station *s, int64_t now);
+void line_answer(struct line *l, struct station *s, int64_t now);
+#endif

@@ -1,0 +1,20 @@
+/* The log: a line for each frame, and for each client that comes or goes. */
+#ifndef LOG_H
+#define LOG_H
+#include "dalonjang.h"
+#include <stdio.h>
+
+enum { OUTCOMES = 11 };
+extern const char *const outcome_name[OUTCOMES]; /* as document 01 names them */
+
+/* The cells that a frame wrote; a count of 0 is none. */
+struct written {
+    int table;
+    size_t first, count;
+};
+
+/* Nothing is written where `log` is NULL. */
+void log_event(FILE *log, const char *from, const char *what);
+void log_frame(FILE *log, const char *from, const uint8_t *frame, size_t len, struct dalonjang_result result,
+    struct written written, const uint8_t *reply);
+#endif

@@ -1,0 +1,137 @@
+#include "options.h"
+#include "basics.h"
+#include "dalonjang.h"
+#include "line.h"
+#include <arpa/inet.h>
+
+/* An option that takes a number has its limits and its place here; every other has a function of its own. */
+struct option {
+    const char *name, *takes, *help;
+    size_t least, most, place;
+    int (*set)(struct options *o, const char *value);
+};
+#define NUMBER(name, help, least, most, field) \
+    {name, "NUMBER", help, least, most, offsetof(struct options, field), NULL}
+#define OTHER(name, takes, help, set) {name, takes, help, 0, 0, 0, set}
+
+static int set_address(struct options *o, const char *value) {
+    struct in_addr ip;
+    if (inet_pton(AF_INET, value, &ip) != 1) return 0;
+    o->address = value;
+    o->ip = ip.s_addr;
+    return 1;
+}
+
+static int set_no_tcp(struct options *o, const char *value) {
+    (void)value;
+    return o->no_tcp = 1;
+}
+
+/* Numbers with commas between them, or the word none. */
+static int set_list(struct options *o, const char *value) {
+    char text[1024], *rest = NULL;
+    size_t unit, len = strlen(value);
+    o->list_len = 0;
+    if (strcmp(value, "none") == 0) return 1;
+    if (len == 0 || len >= sizeof text || value[len - 1] == ',' || value[0] == ',' || strstr(value, ",,")) return 0;
+    memcpy(text, value, len + 1);
+    for (char *word = strtok_r(text, ",", &rest); word != NULL; word = strtok_r(NULL, ",", &rest)) {
+        if (o->list_len == sizeof o->list || !number(word, 0, 255, &unit)) return 0;
+        o->list[o->list_len++] = (uint8_t)unit;
+    }
+    return 1;
+}
+
+static int set_all_cells(struct options *o, const char *value) {
+    size_t cells;
+    if (!number(value, 0, DALONJANG_MOST_CELLS, &cells)) return 0;
+    for (int t = 0; t < TABLES; t++) o->cells[t] = cells;
+    return 1;
+}
+
+static int add_line(struct options *o, const char *device, uint8_t transport) {
+    if (o->lines == MOST_LINES || device[0] == 0) return 0;
+    o->line[o->lines].device = device;
+    o->line[o->lines++].transport = transport;
+    return 1;
+}
+
+static int set_rtu(struct options *o, const char *value) { return add_line(o, value, DALONJANG_RTU); }
+static int set_ascii(struct options *o, const char *value) { return add_line(o, value, DALONJANG_ASCII); }
+
+static int set_baud(struct options *o, const char *value) {
+    return number(value, 1, 1000000, &o->baud) && line_speed(o->baud) != 0;
+}
+
+static int set_mode(struct options *o, const char *value) {
+    o->mode = value;
+    return strlen(value) == 3 && strchr("78", value[0]) && strchr("NEO", value[1]) && strchr("12", value[2]);
+}
+
+static int set_image(struct options *o, const char *value) { return (o->image = value)[0] != 0; }
+static int set_log(struct options *o, const char *value) { return (o->log = value)[0] != 0; }
+
+static const struct option option[] = {
+    OTHER("address", "ADDRESS", "listen on this IPv4 address (127.0.0.1; 0.0.0.0 is all of this machine)", set_address),
+    NUMBER("port", "listen on this port (1502; 0 is any that is free)", 0, 65535, port),
+    NUMBER("clients", "TCP clients at once (32); for one more, the longest silent goes", 1, MOST_CLIENTS, clients),
+    NUMBER("idle", "seconds after which a silent TCP client is closed (60; 0 is never)", 0, 1000000, idle),
+    NUMBER("patience", "seconds that a frame may take to come, or its reply to be taken (5)", 1, 3600, patience),
+    OTHER("no-tcp", NULL, "serve serial lines alone", set_no_tcp),
+    OTHER("rtu", "DEVICE", "serve this serial line or pseudo terminal as RTU; may be given again", set_rtu),
+    OTHER("ascii", "DEVICE", "the same as ASCII", set_ascii),
+    OTHER("baud", "SPEED", "speed of the serial lines, 1200 to 115200 (19200)", set_baud),
+    OTHER("mode", "MODE", "data bits, parity, stop bits (8E1 for RTU, 7E1 for ASCII)", set_mode),
+    NUMBER("silence", "milliseconds of silence that end an RTU frame (3.5 characters)", 1, 10000, silence),
+    NUMBER("unit", "our unit number (1)", 0, 255, unit),
+    OTHER("broadcast", "LIST", "the broadcast numbers, as 0,255 or none (0)", set_list),
+    OTHER("cells", "NUMBER", "cells of every table (1000)", set_all_cells),
+    NUMBER("coils", "cells of this table", 0, DALONJANG_MOST_CELLS, cells[COILS]),
+    NUMBER("discretes", "cells of this table", 0, DALONJANG_MOST_CELLS, cells[DISCRETES]),
+    NUMBER("holdings", "cells of this table", 0, DALONJANG_MOST_CELLS, cells[HOLDINGS]),
+    NUMBER("inputs", "cells of this table", 0, DALONJANG_MOST_CELLS, cells[INPUTS]),
+    OTHER("image", "FILE", "load the tables from this file and save them to it after every write", set_image),
+    OTHER("log", "FILE", "a line for each frame; - is standard output", set_log),
+};
+enum { OPTIONS = sizeof option / sizeof option[0] };
+
+static int help(void) {
+    puts("Usage: dalonjang [OPTION]..\n"
+         "A Modbus server, TCP and serial lines over one set of tables. Control-C ends it.\n");
+    for (size_t i = 0; i < OPTIONS; i++)
+        printf("  --%-9s %-8s %s\n", option[i].name, option[i].takes ? option[i].takes : "", option[i].help);
+    puts("  --help               this text\n\n"
+         "An image is text: 'dalonjang tables', then rows as 'holdings 10 258 772' (a table, a cell, the values from\n"
+         "there on; # begins a remark), then 'end'. So discretes and inputs, which no client can write, get values.");
+    return 0;
+}
+
+static int take(struct options *o, const struct option *it, const char *value) {
+    if (it->set != NULL && it->set(o, value)) return 1;
+    if (it->set == NULL && number(value, it->least, it->most, (size_t *)(void *)((char *)o + it->place))) return 1;
+    if (it->set != NULL) complain("--%s %s: that is no %s (--help says more)", it->name, value, it->takes);
+    else complain("--%s %s: not a number from %zu to %zu", it->name, value, it->least, it->most);
+    return 0;
+}
+
+int options_read(struct options *o, int argc, char **argv) {
+    *o = (struct options){.port = 1502, .clients = 32, .idle = 60, .patience = 5, .unit = 1, .list = {0}, .list_len = 1,
+        .baud = 19200};
+    set_address(o, "127.0.0.1");
+    set_all_cells(o, "1000");
+    for (int i = 1; i < argc; i++) {
+        size_t n = 0;
+        if (strcmp(argv[i], "--help") == 0) return help();
+        while (n < OPTIONS && (strncmp(argv[i], "--", 2) != 0 || strcmp(argv[i] + 2, option[n].name) != 0)) n++;
+        if (n == OPTIONS) {
+            complain("%s: there is no such option (--help lists them)", argv[i]);
+            return 2;
+        }
+        const char *value = option[n].takes == NULL ? "" : argv[++i];
+        if (value == NULL) complain("--%s wants a %s after it", option[n].name, option[n].takes);
+        if (value == NULL || !take(o, &option[n], value)) return 2;
+    }
+    if (!o->no_tcp || o->lines > 0) return -1;
+    complain("--no-tcp leaves nothing to serve without --rtu or --ascii");
+    return 2;
+}

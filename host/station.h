@@ -1,0 +1,25 @@
+/* What is served: a unit number, broadcast numbers and one set of tables. Every frame of every line and client comes
+ * here, and here alone the library is called. */
+#ifndef STATION_H
+#define STATION_H
+#include "log.h"
+#include "tables.h"
+
+struct station {
+    uint8_t unit, list[256];
+    size_t list_len;
+    struct table table[TABLES];
+    FILE *log;         /* or NULL */
+    const char *image; /* or NULL */
+    int unsaved;       /* cells were written since the image was saved */
+    unsigned long served[OUTCOMES];
+};
+
+/* Answers the length of the reply, 0 for none. */
+size_t station_serve(struct station *s, const char *from, uint8_t transport, const uint8_t *frame, size_t len,
+    uint8_t *reply, size_t room);
+
+/* To be called before replies go out, so that whatever a client was told is in the image. Answers 0 where it cannot be
+ * saved. */
+int station_keep(struct station *s);
+#endif
