@@ -1,11 +1,15 @@
 # The README's commands. `make test` is what .ci/run calls; its last line is rt ci's 'N passed, 0 failed'.
-.PHONY: test beside driver-runs host-runs peers prove lib serve clean
+.PHONY: test beside frame-runs driver-runs host-runs peers prove lib measure serve clean
 
-test: beside driver-runs host-runs peers prove
+test: beside frame-runs driver-runs host-runs peers prove
 
 # the ported calls beside the Rust they are ported from, on the same bytes (CALLS="5000000 2000000" for more)
 beside:
 	@bin/beside $(CALLS)
+
+# the frame, modules 5 to 7, call by call beside the Rust (FRAMES=5000000 for more)
+frame-runs:
+	@bin/frame-runs $(FRAMES)
 
 # the C library as firmware calls it: known answers, random calls, whole frames beside the Rust (RUNS="5000000 5000000" for more)
 driver-runs:
@@ -27,6 +31,10 @@ prove:
 lib:
 	@mkdir -p out && rt staticlib dalonjang >out/lib.log 2>&1 || { cat out/lib.log >&2; exit 1; }
 	@echo 'target/staticlib/libdalonjang.a, with include/dalonjang.h'
+
+# instructions per request beside two peers, held against docs/COST.md (UPDATE=1 writes it)
+measure:
+	@UPDATE=$(UPDATE) bin/measure
 
 # a Modbus server on 127.0.0.1:1502 (ARGS="--port 1503" for other options, ARGS=--help lists them)
 serve:

@@ -44,15 +44,21 @@ put() {
     cmp -s "$1" "$2" || install -D -m 644 "$1" "$2"
 }
 
-# The workspace and the published sources, put together in out/oracle.
-build_vectors() {
+# The published sources with our window, put together in out/oracle/rmodbus.
+gather_crate() {
     local file crate=out/oracle/rmodbus
     (cd "$source" && sha256sum --check --quiet --strict "$OLDPWD/oracle/SHA256SUMS") ||
         fail 'the Rust source is not the published one'
     while read -r _ file; do put "$source/$file" "$crate/src/$file"; done <oracle/SHA256SUMS
-    find oracle -name '*.toml' -o -name '*.rs' | while read -r file; do put "$file" "out/$file"; done
     put oracle/rmodbus/tests.rs $crate/src/tests.rs
     for file in README.md CHANGELOG.md; do put /dev/null $crate/$file; done # lib.rs includes them
+}
+
+# The workspace around the crate, in out/oracle.
+build_vectors() {
+    local file
+    gather_crate
+    find oracle -name '*.toml' -o -name '*.rs' | while read -r file; do put "$file" "out/$file"; done
     logged cargo cargo build --offline --profile oracle \
         --manifest-path out/oracle/Cargo.toml --target-dir out/oracle/target
 }

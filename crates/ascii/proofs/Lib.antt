@@ -1,3 +1,4 @@
 pub mod ReadingLaws
+pub mod PlainLaws
 pub mod RoundTrip
 pub mod Unique

@@ -134,7 +134,7 @@ resumed-on end k buf at h (l ∷ t) b n p r =
     (answered-go k buf at b (decode (length buf) end (suc at) t))
 
 -- the text from i on is its first character and what stands after it
-text-from : (s : List ℕ) (n i : ℕ) → i < n → n ≤ length s → drop i (take n s) ≡ getD s i 0 ∷ drop (i + 1) (take n s)
+pub text-from : (s : List ℕ) (n i : ℕ) → i < n → n ≤ length s → drop i (take n s) ≡ getD s i 0 ∷ drop (i + 1) (take n s)
 text-from s n i h k =
     let j : i < length (take n s) = simp length-take (omega arith) in
     rw (add-one, drop-cons (take n s) i 0, getD-take)

@@ -1,3 +1,4 @@
 pub mod Reading
 pub mod Said
 pub mod PutTwo
+pub mod Plain

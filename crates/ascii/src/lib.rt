@@ -7,12 +7,16 @@ use modbus::SizeAnswer;
 use octets::put_byte;
 ghost use mathlib.Core.Path.{_≡_};
 ghost use mathlib.Core.Bool.{true, false};
-ghost use Prim.Native.Nat.{_+_, _<_, _≤_, min};
+ghost use Prim.Native.Nat.{_+_, _*_, _<_, _≤_, min};
 ghost use lib.ListN.{length, getD, take, drop};
-ghost use Rattle.modbus.specs.Step.{choose, _≟_};
+ghost use lib.Seq.{sets};
+ghost use Rattle.modbus.specs.Step.{choose, _≤?_, _≟_};
 ghost use Rattle.modbus.specs.Paper.{bytePaper, sizePaper};
+ghost use Rattle.modbus.specs.Bytes.{All};
 ghost use Rattle.modbus.specs.Hex.{digit};
+ghost use Rattle.modbus.specs.Frame.{line};
 ghost use Rattle.ascii.specs.Reading.{stopByte?, pair, parsedInto, generatedInto};
+ghost use Rattle.ascii.specs.Plain.{Digit, value, values, Plain};
 ghost use Rattle.ascii.specs.Said.{said};
 ghost use Rattle.ascii.specs.PutTwo.{putTwo};
 
@@ -71,13 +75,89 @@ fn least(m: usize, n: usize) -> usize
     if m <= n { m } else { n }
 }
 
-// Decodes the first `data_len` bytes of the data into the frame buffer from `frame_pos` on, and answers how many bytes that gave.
-pub fn parse_ascii_frame(
-    data: &[u8],
-    data_len: usize,
-    frame_buf: &mut [u8],
-    frame_pos: u8,
-) -> ByteAnswer
+// 0 for a digit 0-9 or A-F, 1 for any other character.
+fn other(c: u8) -> u8
+    ensures { λ r. ⌜ (r ≡ 0 → Digit c) ⌝ }
+{
+    if c < 48 {
+        return 1;
+    }
+    if c <= 57 {
+        return 0;
+    }
+    if c < 65 {
+        return 1;
+    }
+    if 70 < c {
+        return 1;
+    }
+    0
+}
+
+// Whether the characters from `from` to before `end` are all digits. No way out on the way: so the compiler tests sixteen at a time.
+fn all_digits(data: &[u8], from: usize, end: usize) -> bool
+    requires { ⌜ end ≤ length (now «data») ⌝ }
+    ensures { λ r. ⌜ (r ≡ true → All Digit (drop from (take end (now («data» .entry))))) ⌝ }
+{
+    let mut others: u8 = 0;
+    for i in from..end {
+        others = others | other(data[i]);
+    }
+    others == 0
+}
+
+// What a digit stands for.
+fn half(c: u8) -> u8
+    requires { ⌜ Digit c ⌝ }
+    ensures { λ r. ⌜ (r ≡ value c) × (r < 16) ⌝ }
+{
+    if c <= 57 {
+        return c - 48;
+    }
+    c - 55
+}
+
+// Decodes n pairs of digits from `from` on to the places of `buf` from `at` on.
+fn decode_pairs(data: &[u8], from: usize, n: usize, buf: &mut [u8], at: usize)
+    requires { ⌜ (from + 2 * n ≤ length (now «data»)) × (at + n ≤ length (now buf)) × All Digit (drop from (take (from + 2 * n) (now «data»))) ⌝ }
+    ensures { λ r. ⌜ now (buf .exit) ≡ sets (now (buf .entry)) at (values (drop from (take (from + 2 * n) (now («data» .entry))))) ⌝ }
+{
+    for i in 0..n {
+        let k = from + 2 * i;
+        buf[at + i] = half(data[k]) * 16 + half(data[k + 1]);
+    }
+}
+
+// Whether a reading can only decode pairs of digits to the end of the text: nothing else is in it, and there is room. A short text is
+// not worth the look.
+fn plain(data: &[u8], data_len: usize, room: usize, at: usize) -> bool
+    ensures { λ r. ⌜ (r ≡ true → Plain (now («data» .entry)) «data_len» room at) ⌝ }
+{
+    if data_len < 64 {
+        return false;
+    }
+    if data.len() < data_len {
+        return false;
+    }
+    let from = colon(data[0]);
+    let n = (data_len - from) / 2;
+    if from + 2 * n != data_len {
+        return false;
+    }
+    if 254 < n {
+        return false;
+    }
+    if 254 - n < at {
+        return false;
+    }
+    if room < at + n {
+        return false;
+    }
+    all_digits(data, from, data_len)
+}
+
+// Decodes pair by pair, and ends where something else stands.
+fn parse_by_pairs(data: &[u8], data_len: usize, frame_buf: &mut [u8], frame_pos: u8) -> ByteAnswer
     ensures { λ r. ⌜ (bytePaper r, now («frame_buf» .exit)) ≡ parsedInto (now («data» .entry)) «data_len» (now («frame_buf» .entry)) «frame_pos» ⌝ }
 {
     if data.len() == 0 {
@@ -108,6 +188,25 @@ pub fn parse_ascii_frame(
     ByteAnswer::Value(cpos - frame_pos)
 }
 
+// Decodes the first `data_len` bytes of the data into the frame buffer from `frame_pos` on, and answers how many bytes that gave.
+pub fn parse_ascii_frame(
+    data: &[u8],
+    data_len: usize,
+    frame_buf: &mut [u8],
+    frame_pos: u8,
+) -> ByteAnswer
+    ensures { λ r. ⌜ (bytePaper r, now («frame_buf» .exit)) ≡ parsedInto (now («data» .entry)) «data_len» (now («frame_buf» .entry)) «frame_pos» ⌝ }
+{
+    let at = frame_pos as usize;
+    if !plain(data, data_len, frame_buf.len(), at) {
+        return parse_by_pairs(data, data_len, frame_buf, frame_pos);
+    }
+    let from = colon(data[0]);
+    let n = (data_len - from) / 2;
+    decode_pairs(data, from, n, frame_buf, at);
+    ByteAnswer::Value(n as u8)
+}
+
 // The character of a half byte.
 fn character(h: u8) -> u8
     requires { ⌜ h < 16 ⌝ }
@@ -129,8 +228,36 @@ fn put_two(dst: &mut [u8], at: usize, first: u8, second: u8) -> bool
     put_byte(dst, at + 1, second)
 }
 
-// Writes the data as a line of text into the result, and answers how long the line is.
-pub fn generate_ascii_frame(data: &[u8], result: &mut [u8]) -> SizeAnswer
+// Whether a line of n bytes fits.
+fn fits(n: usize, room: usize) -> bool
+    ensures { λ r. ⌜ r ≡ choose (2 * n + 3 ≤? room) true false ⌝ }
+{
+    if room < 3 {
+        return false;
+    }
+    if (room - 3) / 2 < n {
+        return false;
+    }
+    true
+}
+
+// Writes the data as a line of text into a result that has room for it. Without a test for each character, the compiler writes sixteen at a time.
+fn write_line(data: &[u8], result: &mut [u8])
+    requires { ⌜ 2 * length (now «data») + 3 ≤ length (now result) ⌝ }
+    ensures { λ r. ⌜ now (result .exit) ≡ sets (now (result .entry)) 0 (line (now («data» .entry))) ⌝ }
+{
+    result[0] = 58;
+    for i in 0..data.len() {
+        let d = data[i];
+        result[2 * i + 1] = character(d >> 4);
+        result[2 * i + 2] = character(d & 0xf);
+    }
+    result[2 * data.len() + 1] = 0x0D;
+    result[2 * data.len() + 2] = 0x0A;
+}
+
+// The same as far as there is room, character by character.
+fn write_while_room(data: &[u8], result: &mut [u8]) -> SizeAnswer
     ensures { λ r. ⌜ (sizePaper r, now (result .exit)) ≡ generatedInto (now («data» .entry)) (now (result .entry)) ⌝ }
 {
     if !put_byte(result, 0, 58) {
@@ -148,4 +275,15 @@ pub fn generate_ascii_frame(data: &[u8], result: &mut [u8]) -> SizeAnswer
         return SizeAnswer::Refused(ErrorKind::OOB);
     }
     SizeAnswer::Value(at + 2)
+}
+
+// Writes the data as a line of text into the result, and answers how long the line is.
+pub fn generate_ascii_frame(data: &[u8], result: &mut [u8]) -> SizeAnswer
+    ensures { λ r. ⌜ (sizePaper r, now (result .exit)) ≡ generatedInto (now («data» .entry)) (now (result .entry)) ⌝ }
+{
+    if !fits(data.len(), result.len()) {
+        return write_while_room(data, result);
+    }
+    write_line(data, result);
+    SizeAnswer::Value(2 * data.len() + 3)
 }

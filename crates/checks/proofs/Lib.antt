@@ -1,2 +1,3 @@
 pub mod SignedTotal
+pub mod WithinLaws
 pub mod Unique

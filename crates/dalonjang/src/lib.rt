@@ -7,7 +7,8 @@ ghost use mathlib.Core.Path.{_≡_};
 ghost use Rattle.modbus.specs.Paper.{told};
 ghost use Rattle.ascii.specs.Reading.{parsedInto, generatedInto};
 ghost use Rattle.lengths.specs.Guess.{requestBody, responseBody};
-ghost use Rattle.driver.specs.Driven.{paper, lentOf, given, called};
+ghost use Rattle.tables.specs.Lent.{lentOf};
+ghost use Rattle.driver.specs.Driven.{paper, given, called};
 ghost use Rattle.dalonjang.specs.Numbered.{numbers, guessed};
 
 // What became of a request: the reply's length, and document 01's outcome and code.

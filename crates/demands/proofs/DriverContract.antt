@@ -11,7 +11,8 @@ use borrow.Fn.Kinds.{Dens, resT, endedOf}
 use denote.Triple.Clauses.{Lasts, atExit}
 use Rattle.modbus.specs.Bytes.{Bytes}
 use Rattle.modbus.specs.Setup.{Setup, Valid, Roomy}
-use Rattle.driver.specs.Driven.{Lent, paper, lentOf, tablesOf, setupOf, Given, given}
+use Rattle.tables.specs.Lent.{Lent, lentOf, tablesOf}
+use Rattle.driver.specs.Driven.{paper, setupOf, Given, given}
 use Rattle.driver.proofs.drive.Kinds as drive-kinds
 use Rattle.driver.proofs.drive.Reads as drive-reads
 use Rattle.demands.specs.Demand.{Demand3}

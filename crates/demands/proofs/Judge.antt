@@ -24,7 +24,7 @@ use Rattle.demands.specs.Order.{Sent, Known, Coded, told, ignored, Refus
 use Rattle.demands.proofs.ShapeLaws.{broken, unchecked, faults}
 
 module _ (s : Setup) (f : List ℕ) where
-  judge-sent : (m : Message) → Sent s f m → judge s f ≡ fromUnit s m
+  pub judge-sent : (m : Message) → Sent s f m → judge s f ≡ fromUnit s m
   unfolding judge
   judge-sent m h =
       pass _ _ _ (h .valid) ∙ pass _ _ _ (h .roomy) ∙ follow _ _ (quietly-go _ (complete _ _ _ f (h .framed)))

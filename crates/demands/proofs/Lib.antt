@@ -10,3 +10,14 @@ pub mod OnBytes
 pub mod DriverContract
 pub mod Agree
 pub mod Impostors
+pub mod ChainResponse
+pub mod ChainLaid
+pub mod ChainParsed
+pub mod ChainProcessed
+pub mod ChainLaws
+pub mod ChainFaults
+pub mod ChainVerdicts
+pub mod ChainServed
+pub mod ChainExcepted
+pub mod ChainAlike
+pub mod ChainDifferences

@@ -23,7 +23,8 @@ use Rattle.modbus.proofs.BytesLaws.{word-at}
 use Rattle.modbus.proofs.StorageLaws.{coil-bit}
 use Rattle.modbus.proofs.AnswerLaws.{Proper}
 use Rattle.modbus.proofs.DriveLaws.{stop-after, go-low, go-after, by-judge}
-use Rattle.driver.specs.Driven.{Lent, tablesOf, cellsOf, setupOf, coilsBy, holdingsBy, Given, given, told, driven, called}
+use Rattle.tables.specs.Lent.{Lent, cellsOf, tablesOf}
+use Rattle.driver.specs.Driven.{setupOf, coilsBy, holdingsBy, Given, given, told, driven, called}
 use Rattle.demands.specs.Demand.{Demand3}
 use Rattle.demands.specs.Order.{Refusal, bad-setup, no-room}
 use Rattle.demands.specs.OnBytes.{lentAfter, showed, refusing, Unwritten, Kept}

@@ -15,7 +15,8 @@ use Rattle.modbus.specs.Setup.{Setup, Valid, Within}
 use Rattle.modbus.specs.Drive.{Inside}
 use Rattle.modbus.proofs.StorageLaws.{store-length, store-in, store-out, packed-law}
 use Rattle.modbus.proofs.RegisterLaws.{registers-law}
-use Rattle.driver.specs.Driven.{Lent, lentOf, tablesOf, cellsOf, bytesOf, setupOf, coilsAfter, holdingsAfter}
+use Rattle.tables.specs.Lent.{Lent, lentOf, cellsOf, bytesOf, tablesOf}
+use Rattle.driver.specs.Driven.{setupOf, coilsAfter, holdingsAfter}
 use Rattle.demands.specs.Demand.{Stored}
 
 -- ---- bytes that no cell of a run is in

@@ -9,7 +9,8 @@ use Rattle.modbus.specs.Request.{writing}
 use Rattle.modbus.specs.Storage.{coilAt}
 use Rattle.modbus.specs.Setup.{Setup}
 use Rattle.modbus.specs.Drive.{Result}
-use Rattle.driver.specs.Driven.{Lent, lentOf, tablesOf, Given, given}
+use Rattle.tables.specs.Lent.{Lent, lentOf, tablesOf}
+use Rattle.driver.specs.Driven.{Given, given}
 use Rattle.demands.specs.Demand.{Request, Serves}
 
 -- the lent tables after a call: the coils and the holdings have its bytes, the discretes and the inputs are only read

@@ -15,16 +15,16 @@ use Rattle.modbus.specs.Setup.{Setup, Valid, valid?, Roomy}
 use Rattle.modbus.specs.Unit.{listed?, Broadcast, Ours}
 use Rattle.modbus.specs.Decode.{Message, Silent, badSetup, noRoom, number, unwrap, asked}
 use Rattle.modbus.specs.Drive.{coded, Inside, inside?, Result, judge, settle}
-use Rattle.modbus.proofs.StepLaws.{pass, fail, follow, halt, pick-yes, pick-no, picked}
+use Rattle.modbus.proofs.StepLaws.{pass, fail, follow, halt, pick-yes, pick-no, picked, holds, holds-not}
 use Rattle.modbus.proofs.DriveLaws.{quietly-go, quietly-stop}
+use Rattle.tables.specs.Lent.{Lent, tablesOf}
 use Rattle.requests.specs.Parse.{On, weighed}
 use Rattle.requests.specs.declared.Fault.{Fault}
 use Rattle.requests.specs.declared.Fault.the-variants.{BadFunction, Unsupported, BroadcastRead, Length, Value}
 use Rattle.requests.proofs.ParseLaws.{on, off, Addressed, faultOf, unit-go, unit-stop}
 use Rattle.frames.specs.declared.Opened.the-variants.{Body}
-use Rattle.driver.specs.Driven.{Lent, tablesOf, setupOf, coilsAfter, holdingsAfter, Given, given, told, settled, driven, called}
+use Rattle.driver.specs.Driven.{setupOf, coilsAfter, holdingsAfter, Given, given, told, settled, driven, called}
 use Rattle.driver.specs.Serving.{Sized, Turn, answered, refusal, Turned, turned, faulted, ranged, served, tagged, shut, handled, source, startOf, Unframed}
-use Rattle.driver.proofs.SetupLaws.{holds, holds-not}
 
 -- a turn, closed
 abbrev pub closing : (ℕ × ℕ × ℕ) × List ℕ → List ℕ → List ℕ → Given

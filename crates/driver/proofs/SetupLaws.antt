@@ -1,23 +1,13 @@
--- A test that answers true exactly where its condition holds; and what the transport's number tells.
+-- What the transport's number tells.
 -- Assumes nothing.
-use mathlib.Core.Bool.{Bool, true, false}
-use mathlib.Core.Path.{_≡_, refl, sym, _∙_}
+use mathlib.Core.Path.{_≡_, refl}
 use mathlib.Core.List.{List}
 use Prim.Native.Nat.{ℕ, zero, suc, _≤_, _<_}
 use native.Mathlib.Omega.{arith}
-use Rattle.modbus.specs.Step.{choose}
 use Rattle.modbus.specs.Paper.{protoOf}
 use Rattle.modbus.specs.Setup.{roomFor}
 use Rattle.modbus.specs.declared.ModbusProto.the-variants.{TcpUdp}
-use Rattle.modbus.proofs.StepLaws.{picked}
 use Rattle.driver.specs.Serving.{source, startOf}
-
-module _ {P : Type 0} (d : Dec P) (r : Bool) (e : r ≡ choose d true false) where
-  pub holds : r ≡ true → P
-  holds h = picked _ _ _ (sym e ∙ h) (λ p q. p) (λ p q. let z : _≡_ {A = ℕ} 0 1 = cc in absurd (omega arith))
-
-  pub holds-not : r ≡ false → ¬ P
-  holds-not h = picked _ _ _ (sym e ∙ h) (λ p q. let z : _≡_ {A = ℕ} 0 1 = cc in absurd (omega arith)) (λ p q. p)
 
 pub room-other : (n : ℕ) → ¬ (n ≡ 1) → 260 ≡ roomFor (protoOf n)
 room-other zero ne = refl

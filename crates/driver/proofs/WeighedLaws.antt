@@ -19,13 +19,14 @@ use Rattle.modbus.proofs.StorageLaws.{length-part}
 use Rattle.modbus.proofs.BytesLaws.{bytes-by}
 use Rattle.modbus.proofs.DriveLaws.{code-low}
 use Rattle.modbus.proofs.RequestLaws.{Says, asked-says}
+use Rattle.tables.specs.Lent.{Lent, tableOf, cellsOf, tablesOf}
 use Rattle.requests.specs.Parse.{weighed}
 use Rattle.requests.specs.declared.ReadCells.{ReadCells}
 use Rattle.requests.specs.declared.Fault.{Fault}
 use Rattle.requests.specs.declared.Fault.the-variants.{BadFunction, Unsupported, BroadcastRead, Length, Value}
 use Rattle.requests.proofs.ParseLaws.{went, FineRead, Stores, FineWrite}
-use Rattle.driver.specs.Driven.{Lent, tablesOf, cellsOf, setupOf, coilsAfter, holdingsAfter}
-use Rattle.driver.specs.Serving.{tableOf, tabOf, Turn, answered, refusal, readFrom, cellsWritten, Turned, turned, Low, ranged, served}
+use Rattle.driver.specs.Driven.{setupOf, coilsAfter, holdingsAfter}
+use Rattle.driver.specs.Serving.{tabOf, Turn, answered, refusal, readFrom, cellsWritten, Turned, turned, Low, ranged, served}
 
 -- a fault past the first means a function below 128
 low : (b : List ℕ) (k : Fault) → getD b 1 0 ≤ 127 → Low b k
@@ -86,7 +87,7 @@ module _ (l : Lent) (b : List ℕ) where
     ranged-outside n = pick-no _ _ _ (λ k. n (subst (AllWithin (setupOf 0 0 [] l [])) e k .0))
 
   module _ (address count : ℕ) where
-    reply-read : (t : Tab) → getD b 1 0 ≡ code (reads t)
+    pub reply-read : (t : Tab) → getD b 1 0 ≡ code (reads t)
         → answer (read t address count) (part (tablesOf l t) address count)
         ≡ getD b 1 0
         ∷ octets (layout (kindOf t) .kind) count
@@ -118,7 +119,7 @@ module _ (l : Lent) (b : List ℕ) where
 
 -- ---- writes
 
-abbrev Writing : Ask → Type 0
+abbrev pub Writing : Ask → Type 0
 Writing (read t s n) = ⊥
 Writing (write k a v) = Unit {0}
 Writing (writes k s vs) = Unit {0}
@@ -129,7 +130,7 @@ front (read t s n) u pad vs h = absurd h
 front (write k a v) u pad vs h = refl
 front (writes k s ws) u pad vs h = refl
 
-echoes : (a : Ask) (b vs : List ℕ) → Writing a → Says a b → take 6 b ≡ getD b 0 0 ∷ answer a vs
+pub echoes : (a : Ask) (b vs : List ℕ) → Writing a → Says a b → take 6 b ≡ getD b 0 0 ∷ answer a vs
 echoes a b vs w s =
     let (pad, q, e) = s .encodes in
     ap (take 6) (s .headed ∙ ap (λ (l : List ℕ). getD b 0 0 ∷ l) e) ∙ front a (getD b 0 0) pad vs w

@@ -5,12 +5,13 @@ use Prim.Native.Nat.{ℕ}
 use lib.ListN.{length}
 use lib.Seq.{sets}
 use Rattle.modbus.specs.Step.{Step, stop, go}
-use Rattle.modbus.specs.Table.{Tab, coils, discretes, holdings, inputs, bit, word, Tables, Sizes}
+use Rattle.modbus.specs.Table.{bit, word}
 use Rattle.modbus.specs.Request.{Ask, read, write, writes}
-use Rattle.modbus.specs.Storage.{packed, registers, coilAt, registerAt, store}
+use Rattle.modbus.specs.Storage.{packed, registers, store}
 use Rattle.modbus.specs.Setup.{Setup}
 use Rattle.modbus.specs.Decode.{Message}
 use Rattle.modbus.specs.Drive.{Fault, Result, judge, settle}
+use Rattle.tables.specs.Lent.{Lent, tablesOf, cellsOf, bytesOf}
 use Rattle.driver.specs.declared.Outcome.{Outcome}
 use Rattle.driver.specs.declared.Outcome.the-variants.{Answered, BroadcastDone, Exception, BroadcastIgnored, Foreign, FrameBroken, FrameCheck, WrongLength, BadFunction, NoRoom, BadSetup}
 
@@ -27,49 +28,6 @@ paper WrongLength = (7, 0, 0)
 paper BadFunction = (8, 0, 0)
 paper NoRoom = (9, 0, 0)
 paper BadSetup = (10, 0, 0)
-
--- the four lent tables: their bytes, and how many cells each is said to have
-pub record Lent : Type 0 where
-  pub coilBytes : List ℕ
-  pub coilCells : ℕ
-  pub discreteBytes : List ℕ
-  pub discreteCells : ℕ
-  pub holdingBytes : List ℕ
-  pub holdingCells : ℕ
-  pub inputBytes : List ℕ
-  pub inputCells : ℕ
-
-abbrev pub lentOf : List ℕ → ℕ → List ℕ → ℕ → List ℕ → ℕ → List ℕ → ℕ → Lent
-lentOf c cn d dn h hn i in' =
-    record {
-      coilBytes = c;
-      coilCells = cn;
-      discreteBytes = d;
-      discreteCells = dn;
-      holdingBytes = h;
-      holdingCells = hn;
-      inputBytes = i;
-      inputCells = in';
-    }
-
--- what their cells hold
-abbrev pub tablesOf : Lent → Tables
-tablesOf l coils = coilAt (l .coilBytes)
-tablesOf l discretes = coilAt (l .discreteBytes)
-tablesOf l holdings = registerAt (l .holdingBytes)
-tablesOf l inputs = registerAt (l .inputBytes)
-
-abbrev pub cellsOf : Lent → Sizes
-cellsOf l coils = l .coilCells
-cellsOf l discretes = l .discreteCells
-cellsOf l holdings = l .holdingCells
-cellsOf l inputs = l .inputCells
-
-abbrev pub bytesOf : Lent → Sizes
-bytesOf l coils = length (l .coilBytes)
-bytesOf l discretes = length (l .discreteBytes)
-bytesOf l holdings = length (l .holdingBytes)
-bytesOf l inputs = length (l .inputBytes)
 
 abbrev pub setupOf : ℕ → ℕ → List ℕ → Lent → List ℕ → Setup
 setupOf transport unit list l reply =

@@ -18,11 +18,12 @@ use Rattle.modbus.specs.declared.ErrorKind.{ErrorKind}
 use Rattle.modbus.specs.declared.ModbusProto.{ModbusProto}
 use Rattle.modbus.specs.declared.ModbusProto.the-variants.{Rtu, Ascii, TcpUdp}
 use Rattle.tables.specs.Calls.{added}
+use Rattle.tables.specs.Lent.{Lent, lentOf, tableOf, cellsOf, tablesOf}
 use Rattle.requests.specs.declared.Fault.{Fault}
 use Rattle.requests.specs.declared.Fault.the-variants.{BadFunction, Unsupported, BroadcastRead, Length, Value}
 use Rattle.frames.specs.declared.Opened.{Opened}
 use Rattle.frames.specs.declared.Opened.the-variants.{Body, Broken, Check}
-use Rattle.driver.specs.Driven.{paper, Lent, lentOf, tablesOf, cellsOf, setupOf, coilsAfter, holdingsAfter, Given, settled}
+use Rattle.driver.specs.Driven.{paper, setupOf, coilsAfter, holdingsAfter, Given, settled}
 use Rattle.driver.specs.declared.Cells.{Cells}
 use Rattle.driver.specs.declared.Served.{Served}
 use Rattle.driver.specs.declared.Served.the-variants.{Quiet, Coded, Reply}
@@ -32,13 +33,6 @@ use Rattle.driver.specs.declared.Served.the-variants.{Quiet, Coded, Repl
 -- with their cells in one struct
 abbrev pub lentIn : List ℕ → List ℕ → List ℕ → List ℕ → Cells → Lent
 lentIn c d h i n = lentOf c (n .coils) d (n .discretes) h (n .holdings) i (n .inputs)
-
--- one by one
-abbrev pub tableOf : Lent → Tab → List ℕ
-tableOf l coils = l .coilBytes
-tableOf l discretes = l .discreteBytes
-tableOf l holdings = l .holdingBytes
-tableOf l inputs = l .inputBytes
 
 -- none that BadSetup would refuse
 abbrev pub Sized : Lent → Type 0

@@ -31,9 +31,10 @@ ghost use Rattle.modbus.specs.Paper.{toldWith, sizePaper, protoOf};
 ghost use Rattle.modbus.specs.Setup.{Valid, valid?, roomFor};
 ghost use Rattle.modbus.specs.Storage.{Sound, packed, registers};
 ghost use Rattle.modbus.specs.Frame.{wrap};
+ghost use Rattle.tables.specs.Lent.{lentOf};
 ghost use Rattle.requests.specs.Parse.{on?, weighed};
 ghost use Rattle.frames.specs.Opened.{laid};
-ghost use Rattle.driver.specs.Driven.{paper, lentOf, setupOf, given, called};
+ghost use Rattle.driver.specs.Driven.{paper, setupOf, given, called};
 ghost use Rattle.driver.specs.Serving.{lentIn, Sized, tabOf, turnOf, Brief, answered, refusal, fetched, readFrom, cellsWritten, turned, served, tagged, shut, handled, Unframed, startOf, Low, faulted};
 
 // Document 01's outcomes: a reply's length and an exception's code where there are any.
@@ -339,8 +340,8 @@ fn serve(
 }
 
 // Puts a reply's body of n bytes into a frame, and that to the front of the reply buffer; its length.
-fn seal(line: Line, out: [u8; 256], n: u8, reply: &mut [u8]) -> usize
-    ensures { λ r. ⌜ (r, now (reply .exit)) ≡ laid (now (reply .entry)) (wrap (protoOf (line .transport)) (tagged (protoOf (line .transport)) (line .high) (line .low)) (take n out)) ⌝ }
+fn seal(line: Line, out: &[u8; 256], n: u8, reply: &mut [u8]) -> usize
+    ensures { λ r. ⌜ (r, now (reply .exit)) ≡ laid (now (reply .entry)) (wrap (protoOf (line .transport)) (tagged (protoOf (line .transport)) (line .high) (line .low)) (take n (now (out .entry)))) ⌝ }
 {
     if line.transport == 0 {
         return seal_rtu(out, n, reply);
@@ -352,9 +353,9 @@ fn seal(line: Line, out: [u8; 256], n: u8, reply: &mut [u8]) -> usize
 }
 
 // What is sent, and document 01's outcome.
-fn close(line: Line, broadcast: bool, served: Served, out: [u8; 256], reply: &mut [u8]) -> Outcome
+fn close(line: Line, broadcast: bool, served: Served, out: &[u8; 256], reply: &mut [u8]) -> Outcome
     requires { ⌜ Brief served × (roomFor (protoOf (line .transport)) ≤ length (now reply)) ⌝ }
-    ensures { λ r. ⌜ (paper r, now (reply .exit)) ≡ shut (protoOf (line .transport)) (tagged (protoOf (line .transport)) (line .high) (line .low)) broadcast (now (reply .entry)) (turnOf served out) ⌝ }
+    ensures { λ r. ⌜ (paper r, now (reply .exit)) ≡ shut (protoOf (line .transport)) (tagged (protoOf (line .transport)) (line .high) (line .low)) broadcast (now (reply .entry)) (turnOf served (now (out .entry))) ⌝ }
 {
     match served {
         Served::Quiet(outcome) => outcome,
@@ -433,7 +434,7 @@ fn handle(
         cells,
         &mut out,
     );
-    close(line, broadcast, served, out, reply)
+    close(line, broadcast, served, &out, reply)
 }
 
 // Takes a frame apart; an ASCII body is decoded to the front of `raw`.

@@ -7,15 +7,9 @@ use native.Mathlib.Omega.{arith}
 use lib.ListN.{length, take, drop, getD, drop-of-length-le}
 use lib.Seq.{drop-cons, take-take, getD-take, length-take-le}
 use Rattle.modbus.specs.Step.{stop, go}
-use Rattle.modbus.specs.Paper.{told, bytePaper}
 use Rattle.modbus.specs.Check.{lrc}
 use Rattle.modbus.specs.Decode.{frameCheck}
-use Rattle.modbus.specs.declared.ErrorKind.{ErrorKind}
-use Rattle.modbus.specs.declared.ByteAnswer.{ByteAnswer}
-use Rattle.modbus.specs.declared.ByteAnswer.the-variants as byte
 use Rattle.modbus.proofs.StepLaws.{pass, fail}
-use Rattle.modbus.proofs.PaperLaws.{byte-value, byte-refusal}
-use Rattle.checks.specs.Within.{lrcWithin}
 use Rattle.frames.specs.Checked.{checked}
 
 -- the first n bytes of a buffer
@@ -42,14 +36,3 @@ module _ (s : List ℕ) (n : ℕ) (low : 1 ≤ n) (high : n ≤ length s) where
   checked-right e =
       pass _ _ _ (last ∙ ap (λ (b : ℕ). b ∷ []) e ∙ ap (λ (t : List ℕ). lrc t ∷ []) (sym before))
       ∙ ap (λ (t : List ℕ). go (record { tag = []; body = t })) before
-
--- what was answered for the LRC of the first n bytes of a buffer that has them
-module _ (r : ByteAnswer) (s : List ℕ) (n : ℕ) (h : n ≤ length s) (e : bytePaper r ≡ told (lrcWithin s n)) where
-  pub lrc-value : (v : ℕ) → r ≡ byte.Value v → v ≡ lrc (take n s)
-  lrc-value v q = let p = sym (byte-value r (lrcWithin s n) v e q) ∙ pass _ _ _ h in cc
-
-  pub lrc-never : (k : ErrorKind) → r ≡ byte.Refused k → ⊥
-  lrc-never k q =
-      let p = sym (byte-refusal r (lrcWithin s n) k e q) ∙ pass _ _ _ h in
-      let z : _≡_ {A = ℕ} 0 1 = cc in
-      omega arith

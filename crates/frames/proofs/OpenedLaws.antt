@@ -29,7 +29,8 @@ use Rattle.frames.specs.Opened.{opened, Lined, lined?, openedText}
 use Rattle.frames.specs.Checked.{checked}
 use Rattle.frames.specs.declared.Opened.{Opened}
 use Rattle.frames.specs.declared.Opened.the-variants.{Body, Broken, Check}
-use Rattle.frames.proofs.TextLaws.{decode-untext, untext-decode, counted-go, counted-stop}
+use Rattle.ascii.proofs.PlainLaws.{decode-untext}
+use Rattle.frames.proofs.TextLaws.{untext-decode, counted-go, counted-stop}
 
 -- the last two bytes
 pub last-two : (f : List ℕ) (n : ℕ) → n + 2 ≡ length f → drop n f ≡ getD f n 0 ∷ getD f (n + 1) 0 ∷ []

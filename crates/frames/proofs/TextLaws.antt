@@ -1,43 +1,15 @@
 -- A reading that decodes all of a text gives the bytes that the text stands for, and a text that stands for bytes is read so.
 -- Assumes nothing.
-use mathlib.Core.Logic.{⊎-elim}
 use mathlib.Core.Path.{_≡_, refl, ap, _∙_}
 use mathlib.Core.List.{List, [], _∷_}
-use Prim.Native.Nat.{ℕ, suc, _+_, _*_, _≤_}
+use Prim.Native.Nat.{ℕ, suc, _+_, _*_}
 use native.Mathlib.Omega.{arith}
 use lib.ListN.{length}
 use Rattle.modbus.specs.Step.{Step, stop, go}
-use Rattle.modbus.specs.Hex.{undigit, untext}
+use Rattle.modbus.specs.Hex.{untext}
 use Rattle.modbus.specs.declared.ErrorKind.{ErrorKind}
 use Rattle.modbus.proofs.StepLaws.{follow, bound, needed}
-use Rattle.modbus.proofs.HexLaws.{undigit-none}
-use Rattle.ascii.specs.Reading.{Ending, finished, refused, Decoded, ends, onward, StopByte, orRefused, second, pair, placed, decode, counted}
-use Rattle.ascii.proofs.ReadingLaws.{pair-both, placed-go, decode-go}
-
--- a digit is no stop byte
-undigit-goes : (c a : ℕ) → undigit c ≡ go a → ¬ StopByte c
-undigit-goes c a e s =
-    let k : c ≤ 13 = ⊎-elim (λ q. omega arith) (λ t. ⊎-elim (λ q. omega arith) (λ q. omega arith) t) s in
-    let f = undigit-none c (λ p. omega (arith, p)) (λ p. omega (arith, p)) in
-    let z : _≡_ {A = ℕ} 0 1 = cc in
-    omega arith
-
--- a text that stands for bytes is decoded to them
-pub decode-untext : (t l : List ℕ) (room at : ℕ) → untext t ≡ go l → 2 * at + length t ≤ 508 → 2 * at + length t ≤ 2 * room
-    → decode room finished at t ≡ record { bytes = l; ending = finished }
-unfolding untext decode onward second
-decode-untext [] l room at e h k = let z : [] ≡ l = cc in ap (λ (b : List ℕ). record { bytes = b; ending = finished }) z
-decode-untext (x ∷ []) l room at e h k = let z : _≡_ {A = ℕ} 0 1 = cc in absurd (omega arith)
-decode-untext (x ∷ y ∷ t) l room at e h k =
-    bound _ _ e λ a p e₁.
-    bound _ _ e₁ λ b q e₂.
-    bound _ _ e₂ λ m r e₃.
-    let z : (a * 16 + b) ∷ m ≡ l = cc in
-    let n = undigit-goes x a p in
-    decode-go room finished at x y t (a * 16 + b)
-    (placed-go room at x (y ∷ t) (λ z. omega arith) (a * 16 + b) (pair-both x (y ∷ t) n a b p q) (omega arith))
-    ∙ ap (onward (go (a * 16 + b))) (decode-untext t m room (suc at) r (omega arith) (omega arith))
-    ∙ ap (λ (v : List ℕ). record { bytes = v; ending = finished }) z
+use Rattle.ascii.specs.Reading.{Ending, finished, refused, Decoded, ends, onward, orRefused, second, pair, placed, decode, counted}
 
 or-refused : (m : Step ErrorKind ℕ) (v : ℕ) → orRefused m ≡ go v → m ≡ go v
 unfolding orRefused

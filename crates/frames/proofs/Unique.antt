@@ -29,17 +29,17 @@ open-ascii κs a x y u v p q =
     let e = p ∙ sym q in
     (ap (λ (t : Opened × List ℕ). t .0) e, ap (λ (t : Opened × List ℕ). (u .0, (t .1, u .1 .1))) e)
 
-pub seal-rtu : Unique 1 seal-rtu-kinds.ps seal-rtu-kinds.r seal-rtu-reads.Post
+pub seal-rtu : Unique 2 seal-rtu-kinds.ps seal-rtu-kinds.r seal-rtu-reads.Post
 seal-rtu κs a x y u v p q =
     let e = p ∙ sym q in
     (ap (λ (t : ℕ × List ℕ). t .0) e, ap (λ (t : ℕ × List ℕ). (u .0, (u .1 .0, (t .1, u .1 .1 .1)))) e)
 
-pub seal-ascii : Unique 1 seal-ascii-kinds.ps seal-ascii-kinds.r seal-ascii-reads.Post
+pub seal-ascii : Unique 2 seal-ascii-kinds.ps seal-ascii-kinds.r seal-ascii-reads.Post
 seal-ascii κs a x y u v p q =
     let e = p ∙ sym q in
     (ap (λ (t : ℕ × List ℕ). t .0) e, ap (λ (t : ℕ × List ℕ). (u .0, (u .1 .0, (t .1, u .1 .1 .1)))) e)
 
-pub seal-tcp : Unique 1 seal-tcp-kinds.ps seal-tcp-kinds.r seal-tcp-reads.Post
+pub seal-tcp : Unique 2 seal-tcp-kinds.ps seal-tcp-kinds.r seal-tcp-reads.Post
 seal-tcp κs a x y u v p q =
     let e = p ∙ sym q in (
       ap (λ (t : ℕ × List ℕ). t .0) e,

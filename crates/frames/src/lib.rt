@@ -150,41 +150,44 @@ fn lay_line(bytes: &[u8], n: usize, reply: &mut [u8]) -> usize
 }
 
 // The frame around the first n bytes of `body` goes to the front of the reply, if it fits; its length, or 0.
-pub fn seal_rtu(body: [u8; 256], n: u8, reply: &mut [u8]) -> usize
-    ensures { λ r. ⌜ (r, now (reply .exit)) ≡ laid (now (reply .entry)) (wrap Rtu [] (take n body)) ⌝ }
+pub fn seal_rtu(body: &[u8; 256], n: u8, reply: &mut [u8]) -> usize
+    ensures { λ r. ⌜ (r, now (reply .exit)) ≡ laid (now (reply .entry)) (wrap Rtu [] (take n (now (body .entry)))) ⌝ }
 {
+    let bytes: &[u8] = body;
     let m = n as usize;
     if reply.len() < m + 2 {
         return 0;
     }
-    let crc = calc_crc16(&body, n);
-    lay(reply, 0, &body, m);
+    let crc = calc_crc16(bytes, n);
+    lay(reply, 0, bytes, m);
     reply[m] = (crc % 256) as u8;
     reply[m + 1] = (crc / 256) as u8;
     m + 2
 }
 
-pub fn seal_ascii(body: [u8; 256], n: u8, reply: &mut [u8]) -> usize
-    ensures { λ r. ⌜ (r, now (reply .exit)) ≡ laid (now (reply .entry)) (wrap Ascii [] (take n body)) ⌝ }
+pub fn seal_ascii(body: &[u8; 256], n: u8, reply: &mut [u8]) -> usize
+    ensures { λ r. ⌜ (r, now (reply .exit)) ≡ laid (now (reply .entry)) (wrap Ascii [] (take n (now (body .entry)))) ⌝ }
 {
+    let bytes: &[u8] = body;
     let m = n as usize;
     if reply.len() < 2 * m + 5 {
         return 0;
     }
-    match calc_lrc(&body, n) {
+    match calc_lrc(bytes, n) {
         ByteAnswer::Refused(_) => 0,
         ByteAnswer::Value(lrc) => {
-            let mut bytes = body;
-            bytes[m] = lrc;
-            lay_line(&bytes, m + 1, reply)
+            let mut whole = *body;
+            whole[m] = lrc;
+            lay_line(&whole, m + 1, reply)
         }
     }
 }
 
 // The same with the transaction number's two bytes.
-pub fn seal_tcp(high: u8, low: u8, body: [u8; 256], n: u8, reply: &mut [u8]) -> usize
-    ensures { λ r. ⌜ (r, now (reply .exit)) ≡ laid (now (reply .entry)) (wrap TcpUdp (high ∷ low ∷ []) (take n body)) ⌝ }
+pub fn seal_tcp(high: u8, low: u8, body: &[u8; 256], n: u8, reply: &mut [u8]) -> usize
+    ensures { λ r. ⌜ (r, now (reply .exit)) ≡ laid (now (reply .entry)) (wrap TcpUdp (high ∷ low ∷ []) (take n (now (body .entry)))) ⌝ }
 {
+    let bytes: &[u8] = body;
     let m = n as usize;
     if reply.len() < m + 6 {
         return 0;
@@ -195,6 +198,6 @@ pub fn seal_tcp(high: u8, low: u8, body: [u8; 256], n: u8, reply: &mut [u8]) -> 
     reply[3] = 0;
     reply[4] = 0;
     reply[5] = n;
-    lay(reply, 6, &body, m);
+    lay(reply, 6, bytes, m);
     m + 6
 }

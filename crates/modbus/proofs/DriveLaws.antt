@@ -47,6 +47,17 @@ code-low (one word) = omega arith
 code-low (many bit) = omega arith
 code-low (many word) = omega arith
 
+-- the numbers of the functions, one by one
+pub none : (n : ℕ) → n ≢ 1 → n ≢ 2 → n ≢ 3 → n ≢ 4 → n ≢ 5 → n ≢ 6 → n ≢ 15 → n ≢ 16 → (fn : Fn) → n ≢ code fn
+none n h1 h2 h3 h4 h5 h6 h15 h16 (reads coils) = h1
+none n h1 h2 h3 h4 h5 h6 h15 h16 (reads discretes) = h2
+none n h1 h2 h3 h4 h5 h6 h15 h16 (reads holdings) = h3
+none n h1 h2 h3 h4 h5 h6 h15 h16 (reads inputs) = h4
+none n h1 h2 h3 h4 h5 h6 h15 h16 (one bit) = h5
+none n h1 h2 h3 h4 h5 h6 h15 h16 (one word) = h6
+none n h1 h2 h3 h4 h5 h6 h15 h16 (many bit) = h15
+none n h1 h2 h3 h4 h5 h6 h15 h16 (many word) = h16
+
 find-code : {F : Type 0} (x : F) (fn : Fn) → find x (code fn) functions ≡ go fn
 unfolding find choose ℕ-discrete
 find-code x (reads coils) = refl

@@ -1,10 +1,11 @@
 -- What an answer in numbers tells: what is told in the same numbers is the same.
 -- Assumes nothing.
 use mathlib.Core.Path.{_≡_, refl, sym, ap, _∙_}
+use mathlib.Core.List.{List}
 use Prim.Native.Nat.{ℕ, zero, suc, _≤_}
 use native.Mathlib.Omega.{arith}
 use Rattle.modbus.specs.Step.{Step, stop, go, _≤?_}
-use Rattle.modbus.specs.Paper.{number, transport, protoOf, told, bytePaper, sizePaper, protoAsked}
+use Rattle.modbus.specs.Paper.{number, transport, protoOf, told, toldWith, bytePaper, sizePaper, protoAsked}
 use Rattle.modbus.specs.declared.ErrorKind.{ErrorKind}
 use Rattle.modbus.specs.declared.ErrorKind.the-variants.{OOB, OOBContext, FrameBroken, FrameCRCError, IllegalDataValue, ReadCallOnWriteFrame, WriteCallOnReadFrame, BadSetup}
 use Rattle.modbus.specs.declared.ModbusProto.{ModbusProto}
@@ -45,7 +46,28 @@ byte-value r m v e q = told-same m (go v) (sym e ∙ ap bytePaper q)
 pub byte-refusal : (r : ByteAnswer) (m : Step ErrorKind ℕ) (k : ErrorKind) → bytePaper r ≡ told m → r ≡ byte.Refused k → m ≡ stop k
 byte-refusal r m k e q = told-same m (stop k) (sym e ∙ ap bytePaper q)
 
-number-some : (k : ErrorKind) → number k ≡ 0 → ⊥
+-- the same with what a lent buffer then holds
+pub value-with : (l m : List ℕ) (s : Step ErrorKind (ℕ × List ℕ)) (v : ℕ) → (sizePaper (Value v), m) ≡ toldWith l s
+    → s ≡ go (v, m)
+value-with l m (go (w, n)) v e = ap (λ (t : (ℕ × ℕ) × List ℕ). go (t .0 .1, t .1)) (sym e)
+value-with l m (stop k) v e =
+    let q = told-same (go v) (stop k) (ap (λ (t : (ℕ × ℕ) × List ℕ). t .0) e) in
+    let z : _≡_ {A = ℕ} 0 1 = cc in
+    absurd (omega arith)
+
+pub refusal-with : (l m : List ℕ) (s : Step ErrorKind (ℕ × List ℕ)) (k : ErrorKind)
+    → (sizePaper (Refused k), m) ≡ toldWith l s → (s ≡ stop k) × (m ≡ l)
+refusal-with l m (go (w, n)) k e =
+    let q = told-same (stop k) (go w) (ap (λ (t : (ℕ × ℕ) × List ℕ). t .0) e) in
+    let z : _≡_ {A = ℕ} 0 1 = cc in
+    absurd (omega arith)
+refusal-with l m (stop j) k e =
+    let q = told-same (stop k) (stop j) (ap (λ (t : (ℕ × ℕ) × List ℕ). t .0) e) in
+    let z : j ≡ k = cc in
+    (ap stop z, ap (λ (t : (ℕ × ℕ) × List ℕ). t .1) e)
+
+-- no refusal has the number of a call that was done
+pub number-some : (k : ErrorKind) → number k ≡ 0 → ⊥
 number-some OOB e = omega arith
 number-some OOBContext e = omega arith
 number-some FrameBroken e = omega arith

@@ -1,7 +1,8 @@
 -- When a run goes through a step and what it then comes to, and what a run that went through tells of its steps.
 -- The laws that take a run apart hand what they find to a function: bound by a λ it stays a name, where a `let` would be written out.
 -- Assumes nothing.
-use mathlib.Core.Path.{_≡_, refl, ap}
+use mathlib.Core.Bool.{Bool, true, false}
+use mathlib.Core.Path.{_≡_, refl, sym, ap, _∙_}
 use Prim.Native.Nat.{ℕ}
 use native.Mathlib.Omega.{arith}
 use Rattle.modbus.specs.Step.{Step, stop, go, _>>=_, _>>_, need, choose}
@@ -76,3 +77,19 @@ pub either : {A P : Type 0} (Q : A → Type 0) (d : Dec P) (a b : A) → (P → 
 unfolding choose
 either Q (yes p) a b x y = x p
 either Q (no p) a b x y = y p
+
+-- a test that answers true where P holds
+module _ {P : Type 0} (d : Dec P) (r : Bool) (e : r ≡ choose d true false) where
+  pub holds : r ≡ true → P
+  holds h = picked _ _ _ (sym e ∙ h) (λ p q. p) (λ p q. let z : _≡_ {A = ℕ} 0 1 = cc in absurd (omega arith))
+
+  pub holds-not : r ≡ false → ¬ P
+  holds-not h = picked _ _ _ (sym e ∙ h) (λ p q. let z : _≡_ {A = ℕ} 0 1 = cc in absurd (omega arith)) (λ p q. p)
+
+-- a test that answers true where P does not hold
+module _ {P : Type 0} (d : Dec P) (r : Bool) (e : r ≡ choose d false true) where
+  pub test-refuses : r ≡ true → ¬ P
+  test-refuses h = picked _ _ _ (sym e ∙ h) (λ p q. let z : _≡_ {A = ℕ} 0 1 = cc in absurd (omega arith)) (λ p q. p)
+
+  pub test-passes : r ≡ false → P
+  test-passes h = picked _ _ _ (sym e ∙ h) (λ p q. p) (λ p q. let z : _≡_ {A = ℕ} 0 1 = cc in absurd (omega arith))

@@ -79,42 +79,44 @@ kind-some ReadCallOnWriteFrame a b = refl
 kind-some WriteCallOnReadFrame a b = refl
 kind-some BadSetup a b = refl
 
--- an answer of any type: a value or a refusal, by its numbers
-abbrev back : {A : Type 0} → (ℕ → A) → (ErrorKind → A) → ℕ × ℕ → A
+-- an answer of any type: a value or a refusal, by its number and values
+abbrev pub back : {A B : Type 0} → (B → A) → (ErrorKind → A) → ℕ × B → A
 back value refused p = cond (eqb (p .0) 0) (value (p .1)) (refused (kindBack (p .0)))
 
-refused-back : {A : Type 0} (value : ℕ → A) (refused : ErrorKind → A) (k : ErrorKind) → back value refused (number k, 0) ≡ refused k
-refused-back value refused k = kind-some k _ _ ∙ ap refused (kind-back k)
+pub refused-back : {A B : Type 0} (value : B → A) (refused : ErrorKind → A) (v : B) (k : ErrorKind)
+    → back value refused (number k, v) ≡ refused k
+refused-back value refused v k = kind-some k _ _ ∙ ap refused (kind-back k)
 
 byte-back : (x : ByteAnswer) → back byte.Value byte.Refused (bytePaper x) ≡ x
 byte-back (byte.Value v) = refl
-byte-back (byte.Refused k) = refused-back byte.Value byte.Refused k
+byte-back (byte.Refused k) = refused-back byte.Value byte.Refused 0 k
 
 size-back : (x : SizeAnswer) → back size.Value size.Refused (sizePaper x) ≡ x
 size-back (size.Value v) = refl
-size-back (size.Refused k) = refused-back size.Value size.Refused k
+size-back (size.Refused k) = refused-back size.Value size.Refused 0 k
 
 proto-back : (x : ProtoAnswer) → back (λ n. proto.Value (protoBack n)) proto.Refused (protoPaper x) ≡ x
 proto-back (proto.Value Rtu) = refl
 proto-back (proto.Value Ascii) = refl
 proto-back (proto.Value TcpUdp) = refl
-proto-back (proto.Refused k) = refused-back (λ n. proto.Value (protoBack n)) proto.Refused k
+proto-back (proto.Refused k) = refused-back (λ n. proto.Value (protoBack n)) proto.Refused 0 k
 
 word-back : (x : WordAnswer) → back word.Value word.Refused (wordPaper x) ≡ x
 word-back (word.Value v) = refl
-word-back (word.Refused k) = refused-back word.Value word.Refused k
+word-back (word.Refused k) = refused-back word.Value word.Refused 0 k
 
 bit-back : (x : BitAnswer) → back (λ n. bit.Value (eqb n 1)) bit.Refused (bitPaper x) ≡ x
 bit-back (bit.Value true) = refl
 bit-back (bit.Value false) = refl
-bit-back (bit.Refused k) = refused-back (λ n. bit.Value (eqb n 1)) bit.Refused k
+bit-back (bit.Refused k) = refused-back (λ n. bit.Value (eqb n 1)) bit.Refused 0 k
 
 done-back : (x : DoneAnswer) → back (λ n. done.Done) done.Refused (donePaper x) ≡ x
 done-back done.Done = refl
-done-back (done.Refused k) = refused-back (λ n. done.Done) done.Refused k
+done-back (done.Refused k) = refused-back (λ (n : ℕ). done.Done) done.Refused 0 k
 
 -- what has a way back is told apart by its numbers
-by-back : {A : Type 0} (paper : A → ℕ × ℕ) (way : ℕ × ℕ → A) → ((x : A) → way (paper x) ≡ x) → (x y : A) → paper x ≡ paper y → x ≡ y
+pub by-back : {A N : Type 0} (paper : A → N) (way : N → A) → ((x : A) → way (paper x) ≡ x)
+    → (x y : A) → paper x ≡ paper y → x ≡ y
 by-back paper way e x y p = sym (e x) ∙ ap way p ∙ e y
 
 pub byte-paper : (x y : ByteAnswer) → bytePaper x ≡ bytePaper y → x ≡ y
@@ -131,6 +133,14 @@ bit-paper = by-back bitPaper (back (λ n. bit.Value (eqb n 1)) bit.Refused) bit-
 
 pub done-paper : (x y : DoneAnswer) → donePaper x ≡ donePaper y → x ≡ y
 done-paper = by-back donePaper (back (λ n. done.Done) done.Refused) done-back
+
+-- an answer without a value is told by its first number
+done-whole : (x : DoneAnswer) → donePaper x ≡ (donePaper x .0, 0)
+done-whole done.Done = refl
+done-whole (done.Refused k) = refl
+
+pub done-number : (x y : DoneAnswer) → donePaper x .0 ≡ donePaper y .0 → x ≡ y
+done-number x y e = done-paper x y (done-whole x ∙ ap (λ (n : ℕ). (n, 0)) e ∙ sym (done-whole y))
 
 proto-paper : (x y : ProtoAnswer) → protoPaper x ≡ protoPaper y → x ≡ y
 proto-paper = by-back protoPaper (back (λ n. proto.Value (protoBack n)) proto.Refused) proto-back

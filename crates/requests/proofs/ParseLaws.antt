@@ -9,7 +9,7 @@ use Prim.Native.Nat.{ℕ, _+_, _*_, _/_, _%_, _≤_, _<_}
 use native.Mathlib.Omega.{arith}
 use lib.ListN.{length, getD, take, drop, length-drop, List·getD-eq-default}
 use lib.Seq.{take-length}
-use Rattle.modbus.specs.Step.{Step, stop, go, _>>_, need, choose, _and?_, not?}
+use Rattle.modbus.specs.Step.{Step, stop, go, _>>_, need, _and?_, not?}
 use Rattle.modbus.specs.Bytes.{wordAt}
 use Rattle.modbus.specs.Table.{Kind, bit, word, Tab, coils, discretes, holdings, inputs, kindOf, target, part}
 use Rattle.modbus.specs.Request.{Fn, reads, one, many, code, Ask, read, write, writes, mostRead, mostWritten, reading, writing, octets}
@@ -20,10 +20,10 @@ use Rattle.modbus.specs.Decode.{Message, unitOf, readIgnored, wrongLength, badF
 use Rattle.modbus.specs.Decode.{asked}
 use Rattle.modbus.specs.Drive.{quiet, coded, inside?, fromUnit}
 use Rattle.modbus.specs.Drive as drive
-use Rattle.modbus.proofs.StepLaws.{pass, fail, follow, halt, bound, needed, bound-stop, needed-stop, picked}
+use Rattle.modbus.proofs.StepLaws.{pass, fail, follow, halt, bound, needed, bound-stop, needed-stop}
 use Rattle.modbus.proofs.StorageLaws.{length-part}
 use Rattle.modbus.proofs.Views.{Hexad, hexad, hexad?}
-use Rattle.modbus.proofs.DriveLaws.{code-low, find-fn, found-fn, found-none, found-fault, find-none}
+use Rattle.modbus.proofs.DriveLaws.{code-low, none, find-fn, found-fn, found-none, found-fault, find-none}
 use Rattle.requests.specs.Parse.{On, on?, weighed, kept, parsedAs, parsed}
 use Rattle.requests.specs.declared.ReadCells.{ReadCells}
 use Rattle.requests.specs.declared.Write.the-variants.{Bits, Words}
@@ -33,17 +33,6 @@ use Rattle.requests.specs.declared.Parsed.{Parsed}
 use Rattle.requests.specs.declared.Parsed.the-variants.{Read, Written, Refused}
 
 -- ---- each way out
-
--- the numbers of the functions, one by one
-none : (n : ℕ) → n ≢ 1 → n ≢ 2 → n ≢ 3 → n ≢ 4 → n ≢ 5 → n ≢ 6 → n ≢ 15 → n ≢ 16 → (fn : Fn) → n ≢ code fn
-none n h1 h2 h3 h4 h5 h6 h15 h16 (reads coils) = h1
-none n h1 h2 h3 h4 h5 h6 h15 h16 (reads discretes) = h2
-none n h1 h2 h3 h4 h5 h6 h15 h16 (reads holdings) = h3
-none n h1 h2 h3 h4 h5 h6 h15 h16 (reads inputs) = h4
-none n h1 h2 h3 h4 h5 h6 h15 h16 (one bit) = h5
-none n h1 h2 h3 h4 h5 h6 h15 h16 (one word) = h6
-none n h1 h2 h3 h4 h5 h6 h15 h16 (many bit) = h15
-none n h1 h2 h3 h4 h5 h6 h15 h16 (many word) = h16
 
 module _ (broadcast : Bool) (b : List ℕ) where
   pub refused-function : 127 < getD b 1 0 → parsed broadcast b ≡ Refused BadFunction
@@ -92,16 +81,6 @@ on broadcast e = rw e tt
 
 pub off : (broadcast : Bool) → broadcast ≡ false → ¬ On broadcast
 off broadcast e h = rw e at h
-
--- a test that answers true where P does not hold
-module _ {P : Type 0} (d : Dec P) (r : Bool) (e : r ≡ choose d false true) where
-  pub test-refuses : r ≡ true → ¬ P
-  test-refuses h =
-      picked _ _ _ (sym e ∙ h) (λ p q. let z : _≡_ {A = ℕ} 0 1 = cc in absurd (omega arith)) (λ p q. p)
-
-  pub test-passes : r ≡ false → P
-  test-passes h =
-      picked _ _ _ (sym e ∙ h) (λ p q. p) (λ p q. let z : _≡_ {A = ℕ} 0 1 = cc in absurd (omega arith))
 
 -- ---- what a body that goes through tells
 

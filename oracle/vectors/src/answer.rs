@@ -9,7 +9,7 @@ use std::sync::atomic::{AtomicBool, Ordering::Relaxed};
 const BAD_SETUP: u8 = 10;
 pub const OOB: u8 = 21;
 pub const OOB_CONTEXT: u8 = 22;
-const FRAME_BROKEN: u8 = 23;
+pub const FRAME_BROKEN: u8 = 23;
 
 static IN_THE_CRATE: AtomicBool = AtomicBool::new(false);
 
@@ -71,7 +71,7 @@ fn ask(call: &Call, buffer: &mut [u8]) -> Result<usize, ErrorKind> {
     }
 }
 
-fn proto(number: u8) -> ModbusProto {
+pub fn proto(number: u8) -> ModbusProto {
     match number {
         RTU => ModbusProto::Rtu,
         ASCII => ModbusProto::Ascii,

@@ -4,6 +4,8 @@ use rmodbus::{ErrorKind, VectorTrait};
 pub struct Bounded<'a> {
     lent: &'a mut [u8],
     len: usize,
+    /// Whether anything had no room.
+    pub lacked: bool,
 }
 
 impl<'a> Bounded<'a> {
@@ -14,7 +16,13 @@ impl<'a> Bounded<'a> {
     /// A response that already holds so many bytes, at most as many as are lent.
     pub fn holding(lent: &'a mut [u8], len: usize) -> Self {
         assert!(len <= lent.len());
-        Bounded { lent, len }
+        Bounded { lent, len, lacked: false }
+    }
+
+    /// The bytes lent from the response's end up to `end`.
+    fn room(&mut self, end: usize) -> Result<&mut [u8], ErrorKind> {
+        self.lacked |= end > self.lent.len();
+        self.lent.get_mut(self.len..end).ok_or(ErrorKind::OOB)
     }
 }
 
@@ -25,7 +33,7 @@ impl VectorTrait<u8> for Bounded<'_> {
 
     fn extend(&mut self, other: &[u8]) -> Result<(), ErrorKind> {
         let end = self.len + other.len();
-        self.lent.get_mut(self.len..end).ok_or(ErrorKind::OOB)?.copy_from_slice(other);
+        self.room(end)?.copy_from_slice(other);
         self.len = end;
         Ok(())
     }
@@ -56,7 +64,7 @@ impl VectorTrait<u8> for Bounded<'_> {
 
     fn resize(&mut self, new_len: usize, value: u8) -> Result<(), ErrorKind> {
         if new_len > self.len {
-            self.lent.get_mut(self.len..new_len).ok_or(ErrorKind::OOB)?.fill(value);
+            self.room(new_len)?.fill(value);
         }
         self.len = new_len;
         Ok(())

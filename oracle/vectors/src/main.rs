@@ -4,7 +4,10 @@
 //!                              ones up to N
 //!     vectors tables N SEED    the same of module 4
 //!     vectors drive N SEED     the same of the driver: whole frames, beside the crate's chain from parse to finalize
+//!     vectors frame N SEED     exactly N records of modules 5 to 7 as text: the edges, then random calls and chains
+//!     vectors spoilt N SEED    the same, each field of an expected answer wrong in one record; their numbers are said
 //!     vectors list SEED        the fixed list of modules 1 to 3 as text: the edges, then short random ones
+//!     vectors sample SEED      the fixed list of modules 5 to 7 as text: every way out of every call
 //!
 //! It ends with an error where the crate panics and document 01 foresees none, or the other way round, where the crate
 //! differs from document 01 in a way not known, and where a kind of answer that a call can give did not come up.
@@ -14,6 +17,7 @@ mod chance;
 mod drive;
 mod edges;
 mod exhaustive;
+mod frame;
 mod frames;
 mod random;
 mod record;
@@ -51,8 +55,11 @@ fn main() {
         (Some("stream"), &[n, seed]) if args.len() == 3 => stream(n as usize, seed),
         (Some("tables"), &[n, seed]) if args.len() == 3 => tables(n as usize, seed),
         (Some("drive"), &[n, seed]) if args.len() == 3 => drive(n as usize, seed),
+        (Some("frame"), &[n, seed]) if args.len() == 3 => frame::stream(n as usize, seed),
+        (Some("spoilt"), &[n, seed]) if args.len() == 3 => frame::spoilt(n as usize, seed),
         (Some("list"), &[seed]) if args.len() == 2 => list(seed),
-        _ => fail("usage: vectors stream|tables|drive N SEED | vectors list SEED"),
+        (Some("sample"), &[seed]) if args.len() == 2 => frame::sample(seed),
+        _ => fail("usage: vectors stream|tables|drive|frame|spoilt N SEED | vectors list|sample SEED"),
     }
 }
 
@@ -85,7 +92,7 @@ fn tables(n: usize, seed: u64) {
 
 /// Says at the end how often the crate differed in each way, with the shortest frame met, and how often it panicked.
 fn drive(n: usize, seed: u64) {
-    let mut out = Writer::new(false);
+    let mut out = Out::new();
     let mut total = 0;
     let mut ways: BTreeMap<&str, (usize, Vec<u8>, String)> = BTreeMap::new();
     let mut panics: BTreeMap<&str, usize> = BTreeMap::new();
@@ -117,7 +124,7 @@ fn drive(n: usize, seed: u64) {
     });
     let mut chance = Chance(seed);
     while put(drive::random::random(&mut chance)) < n {}
-    out.out.flush().unwrap_or_else(unwritten);
+    out.flush();
     for way in drive::answer::WAYS {
         let Some((count, shortest, said)) = ways.get(way) else {
             fail(&format!("the crate never differed by this: {way}"))
@@ -137,11 +144,12 @@ fn hex(bytes: &[u8]) -> String {
 
 fn list(seed: u64) {
     let mut out = Writer::new(true);
-    out.text(&format!(
+    let head = format!(
         "# Answers of the crate rmodbus 0.13.0, calls of modules 1 to 3, one record a line in hex digits.\n\
          # Made by `vectors list {seed}` (oracle/vectors, built by bin/beside); not to be edited by hand.\n\
          # Where the crate panics the answer is document 01's.\n{FORMAT}"
-    ));
+    );
+    out.out.bytes(head.as_bytes());
     edges::edges(&mut |call| out.put(call));
     let mut chance = Chance(seed);
     while out.total() < LIST {
@@ -154,7 +162,7 @@ fn list(seed: u64) {
 }
 
 struct Writer {
-    out: BufWriter<StdoutLock<'static>>,
+    out: Out,
     as_text: bool,
     count: [usize; CALLS],
     seen: [[bool; 256]; CALLS],
@@ -163,8 +171,7 @@ struct Writer {
 
 impl Writer {
     fn new(as_text: bool) -> Self {
-        let out = BufWriter::with_capacity(1 << 16, std::io::stdout().lock());
-        Writer { out, as_text, count: [0; CALLS], seen: [[false; 256]; CALLS], differences: BTreeSet::new() }
+        Writer { out: Out::new(), as_text, count: [0; CALLS], seen: [[false; 256]; CALLS], differences: BTreeSet::new() }
     }
 
     fn total(&self) -> usize {
@@ -194,22 +201,14 @@ impl Writer {
         self.count[which] += 1;
         self.seen[which][usize::from(kind)] = true;
         if self.as_text {
-            self.text(&(hex(record) + "\n"));
+            self.out.line(record);
         } else {
-            self.bytes(record);
+            self.out.bytes(record);
         }
     }
 
-    fn text(&mut self, text: &str) {
-        self.bytes(text.as_bytes());
-    }
-
-    fn bytes(&mut self, bytes: &[u8]) {
-        self.out.write_all(bytes).unwrap_or_else(unwritten);
-    }
-
     fn finish(mut self, calls: Range<usize>) {
-        self.out.flush().unwrap_or_else(unwritten);
+        self.out.flush();
         for which in calls.clone() {
             for kind in 0..=255 {
                 if self.seen[which][kind] != KINDS[which].contains(&(kind as u8)) {
@@ -222,6 +221,28 @@ impl Writer {
         }
         let each: Vec<String> = calls.map(|w| format!("{} {}", NAMES[w], self.count[w])).collect();
         eprintln!("{} records: {}", self.total(), each.join(" "));
+    }
+}
+
+/// Standard output.
+struct Out(BufWriter<StdoutLock<'static>>);
+
+impl Out {
+    fn new() -> Self {
+        Out(BufWriter::with_capacity(1 << 16, std::io::stdout().lock()))
+    }
+
+    /// A record as text.
+    fn line(&mut self, record: &[u8]) {
+        self.bytes((hex(record) + "\n").as_bytes());
+    }
+
+    fn bytes(&mut self, bytes: &[u8]) {
+        self.0.write_all(bytes).unwrap_or_else(unwritten);
+    }
+
+    fn flush(&mut self) {
+        self.0.flush().unwrap_or_else(unwritten);
     }
 }
 

@@ -45,7 +45,7 @@ returns-4 c =
     let s = p₂ .before .before .before in
     let a = s .args in
     let v = p₂ .served2 in
-    let (x, y) = sealed (protoOf (a .line .transport)) (a .line .high) (a .line .low) (a .out) 3 (omega arith) (a .reply .now) (s .pre .1) _ _ (c .before .before .seal .ensures) in
+    let (x, y) = sealed (protoOf (a .line .transport)) (a .line .high) (a .line .low) (a .out .now) 3 (omega arith) (a .reply .now) (s .pre .1) _ _ (c .before .before .seal .ensures) in
     rw (v .given .1, p₁ .if1 .left) (ap₂ (λ (n : ℕ) (o : List ℕ). ((2, v .given .0 .0, n), o)) x y)
 
 same-length-2 : tie.Need-same-length-2
@@ -59,7 +59,7 @@ returns-5 c =
     let a = s .args in
     let v = p₂ .served3 in
     let k : v .given .0 .0 ≤ 253 = subst Brief (v .given .1) (s .pre .0) in
-    let (x, y) = sealed (protoOf (a .line .transport)) (a .line .high) (a .line .low) (a .out) (v .given .0 .0) k (a .reply .now) (s .pre .1) _ _ (c .before .before .seal2 .ensures) in
+    let (x, y) = sealed (protoOf (a .line .transport)) (a .line .high) (a .line .low) (a .out .now) (v .given .0 .0) k (a .reply .now) (s .pre .1) _ _ (c .before .before .seal2 .ensures) in
     rw (v .given .1, p₁ .if2 .left) (ap₂ (λ (n : ℕ) (o : List ℕ). ((0, 0, n), o)) x y)
 
 pub close-spec : {M : Type 1} → statement M

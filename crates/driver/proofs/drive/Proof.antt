@@ -6,7 +6,7 @@ use lib.ListN.{length}
 use borrow.Author.Tests.{not-true, not-false}
 use Rattle.modbus.specs.Paper.{protoOf}
 use Rattle.modbus.specs.Setup.{roomFor}
-use Rattle.driver.specs.Driven.{lentOf}
+use Rattle.tables.specs.Lent.{lentOf}
 use Rattle.driver.proofs.DrivenLaws.{setup-holds, setup-fails, no-room}
 use borrow.Author.Needs.{needs}
 use Rattle.driver.proofs.drive.Statement.{statement}

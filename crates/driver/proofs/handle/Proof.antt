@@ -6,8 +6,8 @@ use native.Mathlib.Omega.{arith}
 use lib.ListN.{take, drop}
 use borrow.Author.Tests.{not-true, not-false}
 use Rattle.modbus.specs.Paper.{protoOf}
+use Rattle.modbus.proofs.StepLaws.{holds, holds-not}
 use Rattle.driver.specs.Serving.{lentIn, startOf}
-use Rattle.driver.proofs.SetupLaws.{holds, holds-not}
 use Rattle.driver.proofs.DrivenLaws.{meant, meant-not, foreign-closed, handles}
 use borrow.Author.Needs.{needs}
 use Rattle.driver.proofs.handle.Statement.{statement}
@@ -75,7 +75,7 @@ same-length-3 c = search needs
 
 returns-2 : tie.Need-returns-2
 returns-2 c =
-    let p₁ = c .before .before .before .before .before .before .before .before .before in
+    let p₁ = c .before .before .before .before .before .before .before .before .before .before in
     let p₂ = p₁ .before .before .before .before in
     let p₃ = p₂ .before in
     let p₄ = p₃ .before .before in

@@ -7,8 +7,8 @@ use lib.ListN.{length, getD}
 use Rattle.modbus.specs.Table.{kindOf}
 use Rattle.modbus.specs.Request.{octets}
 use Rattle.modbus.specs.Storage.{layout}
-use Rattle.driver.specs.Driven.{cellsOf}
-use Rattle.driver.specs.Serving.{lentIn, tableOf, tabOf}
+use Rattle.tables.specs.Lent.{tableOf, cellsOf}
+use Rattle.driver.specs.Serving.{lentIn, tabOf}
 use Rattle.driver.proofs.ServingLaws.{octets-most, added-value, read-value, read-refused}
 use borrow.Author.Needs.{needs}
 use Rattle.driver.proofs.read.Statement.{statement}

@@ -5,8 +5,7 @@ use native.Mathlib.Omega.{arith}
 use borrow.Author.Needs.{needs}
 use borrow.Author.Tests.{not-true, not-false}
 use Rattle.modbus.specs.Setup.{valid?}
-use Rattle.modbus.proofs.StepLaws.{pick-yes, pick-no}
-use Rattle.driver.proofs.SetupLaws.{holds, holds-not}
+use Rattle.modbus.proofs.StepLaws.{pick-yes, pick-no, holds, holds-not}
 use Rattle.driver.proofs.valid.Statement.{statement}
 use Rattle.driver.proofs.valid.Tie as tie
 

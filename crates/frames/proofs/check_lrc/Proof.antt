@@ -4,9 +4,10 @@ use mathlib.Core.Path.{sym, ap, _∙_}
 use native.Mathlib.Omega.{arith}
 use borrow.Author.Needs.{needs}
 use lib.Seq.{length-take-le}
+use Rattle.checks.proofs.WithinLaws.{lrc-value, lrc-never}
 use Rattle.frames.specs.Opened.{opened}
 use Rattle.frames.specs.declared.Opened.the-variants.{Body}
-use Rattle.frames.proofs.CheckedLaws.{checked-wrong, checked-right, lrc-value, lrc-never}
+use Rattle.frames.proofs.CheckedLaws.{checked-wrong, checked-right}
 use Rattle.frames.proofs.check_lrc.Statement.{statement}
 use Rattle.frames.proofs.check_lrc.Tie as tie
 

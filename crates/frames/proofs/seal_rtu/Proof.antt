@@ -16,18 +16,12 @@ add-if1 c = search needs
 
 returns : tie.Need-returns
 returns c =
-    let a = c .before .before .args in
-    let k = length-around Rtu [] (a .t1) (a .n) refl (omega arith) in
-    laid-none (a .reply .now) (wrap Rtu [] (take (a .n) (a .t1))) (omega arith)
-
-slice-aggregate-calc-crc16 : tie.Need-slice-aggregate-calc-crc16
-slice-aggregate-calc-crc16 c = search needs
+    let a = c .before .before .before .args in
+    let k = length-around Rtu [] (a .body .now) (a .n) refl (omega arith) in
+    laid-none (a .reply .now) (wrap Rtu [] (take (a .n) (a .body .now))) (omega arith)
 
 calc-crc16-requires : tie.Need-calc-crc16-requires
 calc-crc16-requires c κs = search needs
-
-slice-aggregate-lay : tie.Need-slice-aggregate-lay
-slice-aggregate-lay c = search needs
 
 lay-requires : tie.Need-lay-requires
 lay-requires c κs = search needs
@@ -56,9 +50,9 @@ same-length c = search needs
 returns-2 : tie.Need-returns-2
 returns-2 c =
     let l = c .before .before in
-    let k = l .before .before .before in
+    let k = l .before .before in
     let a = k .before .before .before .before .args in
-    rtu-laid (a .reply .now) (a .t1) (l .lay .last .0) (a .n) _ (omega arith) (omega arith) (k .calc-crc16 .ensures) (l .lay .ensures)
+    rtu-laid (a .reply .now) (a .body .now) (l .lay .last .0) (a .n) _ (omega arith) (omega arith) (k .calc-crc16 .ensures) (l .lay .ensures)
 
 pub seal-rtu-spec : {M : Type 1} → statement M
 seal-rtu-spec =
@@ -66,9 +60,7 @@ seal-rtu-spec =
     (tie.spec
     add-if1
     returns
-    slice-aggregate-calc-crc16
     calc-crc16-requires
-    slice-aggregate-lay
     lay-requires
     cast-reply
     slice-write-reply

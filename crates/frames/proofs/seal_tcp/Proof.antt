@@ -16,9 +16,9 @@ add-if1 c = search needs
 
 returns : tie.Need-returns
 returns c =
-    let a = c .before .before .args in
-    let k = length-around TcpUdp (a .high ∷ a .low ∷ []) (a .t3) (a .n) refl (omega arith) in
-    laid-none (a .reply .now) (wrap TcpUdp (a .high ∷ a .low ∷ []) (take (a .n) (a .t3))) (omega arith)
+    let a = c .before .before .before .args in
+    let k = length-around TcpUdp (a .high ∷ a .low ∷ []) (a .body .now) (a .n) refl (omega arith) in
+    laid-none (a .reply .now) (wrap TcpUdp (a .high ∷ a .low ∷ []) (take (a .n) (a .body .now))) (omega arith)
 
 slice-write-reply : tie.Need-slice-write-reply
 slice-write-reply c = search needs
@@ -38,9 +38,6 @@ slice-write-reply-5 c = simp length-set (omega arith)
 slice-write-reply-6 : tie.Need-slice-write-reply-6
 slice-write-reply-6 c = simp length-set (omega arith)
 
-slice-aggregate-lay : tie.Need-slice-aggregate-lay
-slice-aggregate-lay c = search needs
-
 lay-requires : tie.Need-lay-requires
 lay-requires c κs = (simp length-set (omega arith), omega arith)
 
@@ -54,7 +51,7 @@ returns-2 : tie.Need-returns-2
 returns-2 c =
     let l = c .before .before in
     let a = l .before .before .before .before .before .args in
-    tcp-laid (a .high) (a .low) (a .reply .now) (a .t3) _ (a .n) (omega arith) (omega arith) (omega arith) (l .lay .ensures)
+    tcp-laid (a .high) (a .low) (a .reply .now) (a .body .now) _ (a .n) (omega arith) (omega arith) (omega arith) (l .lay .ensures)
 
 pub seal-tcp-spec : {M : Type 1} → statement M
 seal-tcp-spec =
@@ -68,7 +65,6 @@ seal-tcp-spec =
     slice-write-reply-4
     slice-write-reply-5
     slice-write-reply-6
-    slice-aggregate-lay
     lay-requires
     add-result
     same-length

@@ -4,7 +4,8 @@ use mathlib.Core.Path.{sym, _∙_}
 use borrow.Author.Needs.{needs}
 use Rattle.modbus.specs.Table.{bit}
 use Rattle.modbus.specs.Request.{one}
-use Rattle.requests.proofs.ParseLaws.{refused-length, refused-value, parsed-well, test-refuses, test-passes}
+use Rattle.modbus.proofs.StepLaws.{test-refuses, test-passes}
+use Rattle.requests.proofs.ParseLaws.{refused-length, refused-value, parsed-well}
 use Rattle.requests.proofs.parse_coil.Statement.{statement}
 use Rattle.requests.proofs.parse_coil.Tie as tie
 

@@ -6,7 +6,8 @@ use borrow.Author.Needs.{needs}
 use mir.Facts.{fits-8-64}
 use Rattle.modbus.specs.Table.{bit}
 use Rattle.modbus.specs.Request.{many}
-use Rattle.requests.proofs.ParseLaws.{refused-length, refused-value, parsed-well, test-refuses, test-passes}
+use Rattle.modbus.proofs.StepLaws.{test-refuses, test-passes}
+use Rattle.requests.proofs.ParseLaws.{refused-length, refused-value, parsed-well}
 use Rattle.requests.proofs.parse_coils.Statement.{statement}
 use Rattle.requests.proofs.parse_coils.Tie as tie
 

@@ -4,7 +4,7 @@ pub mod answer;
 mod chain;
 pub mod edges;
 mod lenient;
-mod model;
+pub mod model;
 pub mod random;
 pub mod record;
 mod wire;

@@ -104,13 +104,8 @@ fn ask(call: &Call, room: usize) -> Result<Left, String> {
     Ok(Left { got: got.ok_or("the crate panics where document 01 foresees none")?, table, response })
 }
 
-/// The cells of a table; none where document 01 calls the setup bad.
 fn cells(call: &Call) -> usize {
-    if call.size > MOST || call.table.len() < bytes_of(call.size, call.of_bits()) {
-        0
-    } else {
-        call.size
-    }
+    cells_there(call.size, call.table.len(), call.of_bits())
 }
 
 /// How many cells the call names, and how many bytes carry them.

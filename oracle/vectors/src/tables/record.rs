@@ -146,6 +146,18 @@ pub fn bytes_of(cells: usize, bits: bool) -> usize {
     }
 }
 
+/// Which of the four tables are of bits: coils and discretes, not holdings and inputs.
+pub const BITS_TABLES: [bool; 4] = [true, true, false, false];
+
+/// The cells that count of a table lent as so many bytes; none where document 01 calls the setup bad.
+pub fn cells_there(cells: usize, len: usize, bits: bool) -> usize {
+    if cells > MOST || len < bytes_of(cells, bits) {
+        0
+    } else {
+        cells
+    }
+}
+
 impl Call {
     /// The lent response before the call.
     pub fn lent(&self) -> Vec<u8> {

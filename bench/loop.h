@@ -1,0 +1,103 @@
+/* The program around a server under measure. What includes this file has defined
+ *     start(row)        makes the server ready, with tables of row->cells cells; 0 if it has no such call
+ *     serve(row, line)  one request; the reply's length
+ *     reply()           where the last reply stands
+ *     crc(bytes, n)     the server's CRC
+ *
+ * Standard input has a line for each row: rtu, ascii, tcp or crc, then function, start, count and cells. A row's
+ * request is made once and its reply compared, with a write read back. Then it is made FEW times between two calls of
+ * bench_mark, and twice as often between two more: whoever counts instructions divides the difference by FEW. Where
+ * the server has no such call, nothing is between the marks.
+ * Status: 0 all was as it must be, 1 a wrong reply or CRC, 2 a line that is no row. */
+#include <stdio.h>
+#include <stdlib.h>
+#include <string.h>
+
+enum { FEW = 4 };
+
+void bench_mark(void);
+__attribute__((noinline)) void bench_mark(void) { __asm__ volatile("" ::: "memory"); }
+
+/* The server's answer to row is the right one. */
+static void try_one(const struct row *row) {
+    struct line request = request_of(row), wanted = reply_of(row);
+    size_t n = serve(row, &request);
+    if (n == wanted.len && memcmp(reply(), wanted.bytes, n) == 0) return;
+    printf("wrong reply to function %zu, start %zu, count %zu: %zu bytes, where %zu are right\n",
+        row->function, row->start, row->count, n, wanted.len);
+    exit(1);
+}
+
+/* The same cells by another function; in one request, or in two. */
+static void try_cells(const struct row *row, size_t function, size_t most) {
+    struct row part = *row;
+    part.function = function;
+    part.count = row->count < most ? row->count : most;
+    try_one(&part);
+    part.start += part.count;
+    part.count = row->count - part.count;
+    if (part.count > 0) try_one(&part);
+}
+
+static void try_row(const struct row *row) {
+    int bits = row->function == 1 || row->function == 5 || row->function == 15;
+    int inside = row->start + row->count <= row->cells, reads = row->function < 5;
+    if (inside && reads) try_cells(row, bits ? 15 : 16, bits ? 1000 : 100);
+    try_one(row);
+    if (inside && !reads) try_cells(row, bits ? 1 : 3, bits ? 2000 : 125);
+}
+
+/* The same instructions for both numbers of calls. */
+__attribute__((noinline)) static void make_calls(const struct row *row, const struct line *request, int calls) {
+    bench_mark();
+    for (int i = 0; i < calls; i++) serve(row, request);
+    bench_mark();
+}
+
+__attribute__((noinline)) static void make_checks(const uint8_t *bytes, size_t n, int calls) {
+    volatile uint16_t sum;
+    bench_mark();
+    for (int i = 0; i < calls; i++) sum = crc(bytes, n);
+    bench_mark();
+    (void)sum;
+}
+
+static void measure_row(const struct row *row) {
+    static struct line request;
+    try_row(row);
+    request = request_of(row);
+    make_calls(row, &request, FEW);
+    make_calls(row, &request, 2 * FEW);
+}
+
+static void measure_crc(const struct row *row) {
+    static uint8_t bytes[256];
+    for (size_t i = 0; i < sizeof bytes; i++) bytes[i] = (uint8_t)(i * 37 + 11);
+    if (crc(bytes, row->count) != plain_crc(bytes, row->count)) puts("wrong CRC"), exit(1);
+    make_checks(bytes, row->count, FEW);
+    make_checks(bytes, row->count, 2 * FEW);
+}
+
+static void measure_nothing(void) {
+    for (int i = 0; i < 4; i++) bench_mark();
+}
+
+int main(void) {
+    static const char *const kinds[] = {"rtu", "ascii", "tcp", "crc"};
+    _Alignas(PAGE) char kind[8]; /* so the stack is at the same place in a page whatever the environment */
+    struct row row = {0};
+    int n;
+    while ((n = scanf("%7s %zu %zu %zu %zu", kind, &row.function, &row.start, &row.count, &row.cells)) == 5) {
+        for (row.kind = RTU; row.kind <= CRC && strcmp(kind, kinds[row.kind]) != 0; row.kind++) {}
+        if (row.kind > CRC || row.count > 2000 || (row.kind == CRC && row.count > 255)) return 2;
+        row.turn++;
+        if (!start(&row)) {
+            measure_nothing();
+        } else if (row.kind == CRC) {
+            measure_crc(&row);
+        } else {
+            measure_row(&row);
+        }
+    }
+    return n == EOF ? 0 : 2;
+}

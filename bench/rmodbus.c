@@ -1,0 +1,25 @@
+/* The crate rmodbus under measure; rmodbus.rs is its chain behind these four functions. */
+#include "rows.h"
+
+struct crate;
+struct crate *crate_new(void);
+size_t crate_serve(struct crate *crate, int transport, const uint8_t *frame, size_t len);
+const uint8_t *crate_reply(const struct crate *crate);
+uint16_t crate_crc(const uint8_t *bytes, size_t n);
+
+static struct crate *server;
+
+static int start(const struct row *row) {
+    server = crate_new();
+    return row->kind == CRC || row->cells == 10000; /* the crate's storage has its sizes at compile time */
+}
+
+static const uint8_t *reply(void) { return crate_reply(server); }
+
+static inline size_t serve(const struct row *row, const struct line *request) {
+    return crate_serve(server, row->kind, request->bytes, request->len);
+}
+
+static uint16_t crc(const uint8_t *bytes, size_t n) { return crate_crc(bytes, n); }
+
+#include "loop.h"

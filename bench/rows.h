@@ -1,0 +1,30 @@
+/* A row of the table of costs: one request on one transport, and the reply that any Modbus server must give to it. */
+#ifndef ROWS_H
+#define ROWS_H
+#include <stddef.h>
+#include <stdint.h>
+
+enum { RTU, ASCII, TCP, CRC }; /* the numbers of include/dalonjang.h; and the check alone, of `count` bytes */
+enum { UNIT = 1, MOST = 520 };
+enum { PAGE = 4096 }; /* tables and buffers start at a page: the cost of a copy depends on where it starts */
+
+struct row {
+    int kind;
+    size_t function, start, count, cells; /* every table has so many cells */
+    size_t turn;                          /* from turn to turn all cells have other values */
+};
+
+/* A frame as it is sent. */
+struct line {
+    _Alignas(PAGE) uint8_t bytes[MOST];
+    size_t len;
+};
+
+/* What the row asks; what a write carries are its cells' values in this turn. */
+struct line request_of(const struct row *row);
+
+/* What must come back when the cells have these values, or the exception if they are not all in the table. */
+struct line reply_of(const struct row *row);
+
+uint16_t plain_crc(const uint8_t *bytes, size_t n);
+#endif

@@ -1,0 +1,78 @@
+-- `ascii::plain` meets its contract.
+-- Assumes nothing.
+use mathlib.Core.Bool.{true, false}
+use mathlib.Core.Path.{_≡_}
+use Prim.Native.Nat.{ℕ}
+use native.Mathlib.Omega.{arith}
+use borrow.Author.Needs.{needs}
+use Rattle.ascii.proofs.PlainLaws.{begin-small, plain-by}
+use Rattle.ascii.proofs.plain.Statement.{statement}
+use Rattle.ascii.proofs.plain.Tie as tie
+
+never : {P : Type 0} → false ≡ true → P
+never e = let z : _≡_ {A = ℕ} 0 1 = cc in absurd (omega arith)
+
+returns : tie.Need-returns
+returns c = never
+
+returns-2 : tie.Need-returns-2
+returns-2 c = never
+
+shared-slice-read-colon : tie.Need-shared-slice-read-colon
+shared-slice-read-colon c = search needs
+
+colon-requires : tie.Need-colon-requires
+colon-requires c κs = search needs
+
+sub-n : tie.Need-sub-n
+sub-n c = omega (arith, begin-small _ _ (c .colon .ensures))
+
+mul-if3 : tie.Need-mul-if3
+mul-if3 c = search needs
+
+add-if3 : tie.Need-add-if3
+add-if3 c = search needs
+
+returns-3 : tie.Need-returns-3
+returns-3 c = never
+
+returns-4 : tie.Need-returns-4
+returns-4 c = never
+
+returns-5 : tie.Need-returns-5
+returns-5 c = never
+
+add-if6 : tie.Need-add-if6
+add-if6 c = search needs
+
+returns-6 : tie.Need-returns-6
+returns-6 c = never
+
+all-digits-requires : tie.Need-all-digits-requires
+all-digits-requires c κs = search needs
+
+returns-7 : tie.Need-returns-7
+returns-7 c =
+    let f = c .before .before .before .before .before in
+    let a = f .before .before .before .before .before .args in
+    λ e. plain-by (a .«data» .now) (a .data-len) (a .room) (a .at) (f .colon .result) (f .colon .ensures) (omega arith) (omega arith)
+    (omega arith) (omega arith) (omega arith) (c .all-digits .ensures e)
+
+pub plain-spec : {M : Type 1} → statement M
+plain-spec =
+    tie.close
+    (tie.spec
+    returns
+    returns-2
+    shared-slice-read-colon
+    colon-requires
+    sub-n
+    mul-if3
+    add-if3
+    returns-3
+    returns-4
+    returns-5
+    add-if6
+    returns-6
+    all-digits-requires
+    returns-7)

@@ -1,0 +1,2 @@
+pub mod ExternalLaws
+pub mod Unique

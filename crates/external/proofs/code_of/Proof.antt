@@ -1,0 +1,46 @@
+-- `external::code_of` meets its contract.
+-- Assumes nothing.
+use borrow.Author.Needs.{needs}
+use Rattle.external.proofs.code_of.Statement.{statement}
+use Rattle.external.proofs.code_of.Tie as tie
+
+enum-told : tie.Need-enum-told
+enum-told c = search needs
+
+enum-known-err : tie.Need-enum-known-err
+enum-known-err c = search needs
+
+kind-code-requires : tie.Need-kind-code-requires
+kind-code-requires c κs = search needs
+
+enum-told-2 : tie.Need-enum-told-2
+enum-told-2 c = search needs
+
+enum-told-3 : tie.Need-enum-told-3
+enum-told-3 c = search needs
+
+returns : tie.Need-returns
+returns c = search needs
+
+returns-2 : tie.Need-returns-2
+returns-2 c = rw (c .before .before .err .given .1) (c .kind-code .ensures)
+
+returns-3 : tie.Need-returns-3
+returns-3 c = search needs
+
+returns-4 : tie.Need-returns-4
+returns-4 c = search needs
+
+pub code-of-spec : {M : Type 1} → statement M
+code-of-spec =
+    tie.close
+    (tie.spec
+    enum-told
+    enum-known-err
+    kind-code-requires
+    enum-told-2
+    enum-told-3
+    returns
+    returns-2
+    returns-3
+    returns-4)

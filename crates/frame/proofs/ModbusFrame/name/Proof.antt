@@ -1,0 +1,78 @@
+-- `frame::ModbusFrame::name` meets its contract: no function, one that is not supported, and one that is.
+-- Assumes nothing.
+use mathlib.Core.Path.{sym, _∙_}
+use native.Mathlib.Omega.{arith}
+use borrow.Author.Needs.{needs}
+use Rattle.frame.proofs.StateLaws.{left}
+use Rattle.frame.proofs.ParseLaws.{named-short, named-unsupported, named-supported}
+use Rattle.frame.proofs.ModbusFrame.name.Statement.{statement}
+use Rattle.frame.proofs.ModbusFrame.name.Tie as tie
+
+sub-if1 : tie.Need-sub-if1
+sub-if1 c = search needs
+
+refused-requires : tie.Need-refused-requires
+refused-requires c κs = search needs
+
+returns : tie.Need-returns
+returns c out = left out (c .refused .ensures) ∙ sym (named-short _ _ _ out (omega arith))
+
+add-number : tie.Need-add-number
+add-number c = search needs
+
+shared-slice-read-number : tie.Need-shared-slice-read-number
+shared-slice-read-number c = search needs
+
+function-of-requires : tie.Need-function-of-requires
+function-of-requires c κs = search needs
+
+enum-told : tie.Need-enum-told
+enum-told c = search needs
+
+answer-unsupported-requires : tie.Need-answer-unsupported-requires
+answer-unsupported-requires c κs = search needs
+
+enum-known-f : tie.Need-enum-known-f
+enum-known-f c = search needs
+
+with-func-requires : tie.Need-with-func-requires
+with-func-requires c κs = search needs
+
+request-requires : tie.Need-request-requires
+request-requires c κs = rw (c .with-func .ensures) (omega arith)
+
+returns-2 : tie.Need-returns-2
+returns-2 c out =
+    let p = c .before .before .before in
+    let a = p .before .before .before .before .args in
+    let e = sym (p .function-of .ensures) ∙ c .before .enum-told .given .1 in
+    c .answer-unsupported .ensures out
+    ∙ sym (named-unsupported (a .broadcast) (a .self) (a .buf .now) out (omega arith) e)
+
+returns-3 : tie.Need-returns-3
+returns-3 c out =
+    let p = c .before .before .before in
+    let q = p .before .before in
+    let a = q .before .before .before .before .args in
+    let e = sym (q .function-of .ensures) ∙ p .f .given .1 in
+    c .request .ensures out
+    ∙ sym (named-supported (a .broadcast) (a .self) (a .buf .now) out (omega arith) _ e _
+    (c .before .with-func .ensures))
+
+pub name-spec : {M : Type 1} → statement M
+name-spec =
+    tie.close
+    (tie.spec
+    sub-if1
+    refused-requires
+    returns
+    add-number
+    shared-slice-read-number
+    function-of-requires
+    enum-told
+    answer-unsupported-requires
+    enum-known-f
+    with-func-requires
+    request-requires
+    returns-2
+    returns-3)
