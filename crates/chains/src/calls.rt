@@ -11,10 +11,11 @@
 //   bytes 30-56  the state expected
 //   byte 57      the table expected to change: 0 coils, 2 holdings, 255 none
 //   bytes 58-61  the byte from which on it changes
-//   bytes 62-83  the lengths of the eleven parts (2 each) that follow: buf; the list; the front of the lent response
-//                before the call; the lent response expected; the values expected (2 bytes each, as specs/External lists
-//                them); the changed bytes of the table; for calls 32 and 33 the four tables, coils, discretes, holdings
-//                and inputs: of each length (4), cells (8) and the byte that fills it behind its front; the front of each
+//   bytes 62-83  the lengths (2 each) of the eleven parts that follow: buf; the list; the front of the lent response
+//                before the call; the lent response expected; the values expected (2 bytes each, as the specs of
+//                the crate frame list them); the changed bytes of the table; for calls 32 and 33 the four tables,
+//                coils, discretes, holdings and inputs: of each length (4), cells (8) and the byte that fills it
+//                behind its front; the front of each
 //   Before the call byte i of the lent response behind its front is (0x5A + i) % 256.
 use crate::parts::byte;
 use crate::parts::cut;
@@ -36,12 +37,13 @@ use frame::Left;
 use frame::ModbusFrame;
 ghost use Prim.Native.Nat.{_≤_, _<_};
 
+// How many parts a record has.
 const COUNT: u8 = 11;
 
-// Room for one table of bits or of words: the second of its kind stands behind it.
-pub const BITS: usize = 8200;
+// Room for a table of 65,536 bits or words, and for a short one behind it.
+pub const BITS: usize = 8400;
 
-pub const WORDS: usize = 131080;
+pub const WORDS: usize = 131400;
 
 // A call to which no table is lent.
 fn called(record: &[u8], lent: &mut [u8]) -> bool {
@@ -90,7 +92,7 @@ fn filler(record: &[u8], t: u8) -> u8
 
 // The table t, laid in a buffer from a place on, where there is room for it.
 fn lay_table(record: &[u8], t: u8, buffer: &mut [u8], from: usize)
-    requires { ⌜ (t ≤ 3) × (from ≤ 131080) ⌝ }
+    requires { ⌜ (t ≤ 3) × (from < 4294967296) ⌝ }
 {
     let to = from + table_len(record, t);
     if buffer.len() < to {
@@ -103,12 +105,12 @@ fn lay_table(record: &[u8], t: u8, buffer: &mut [u8], from: usize)
     );
 }
 
-// The table t and the next, which begins at a place of its own.
-fn lay_two(record: &[u8], t: u8, buffer: &mut [u8], second: usize)
-    requires { ⌜ (t ≤ 2) × (second ≤ 131080) ⌝ }
+// The table t, and the next behind it.
+fn lay_two(record: &[u8], t: u8, buffer: &mut [u8])
+    requires { ⌜ t ≤ 2 ⌝ }
 {
     lay_table(record, t, buffer, 0);
-    lay_table(record, t + 1, buffer, second);
+    lay_table(record, t + 1, buffer, table_len(record, t));
 }
 
 // Whether the table t is afterwards what the record says.
@@ -128,7 +130,7 @@ fn kept(record: &[u8], t: u8, table: &[u8]) -> bool
     stands(table, front, filler(record, t), 0, &record[0..0])
 }
 
-// Coils and discretes stand in `bits`, holdings and inputs in `words`.
+// Coils and discretes stand in `bits`, holdings and inputs in `words`, one behind the other.
 fn read_called(record: &[u8], bits: &[u8], words: &[u8], lent: &mut [u8]) -> Left {
     let s = state(record);
     process::process_read(
@@ -136,31 +138,25 @@ fn read_called(record: &[u8], bits: &[u8], words: &[u8], lent: &mut [u8]) -> Lef
         part(record, 0),
         cut(bits, 0, table_len(record, 0)),
         table_cells(record, 0),
-        cut(bits, BITS, table_len(record, 1)),
+        cut(bits, table_len(record, 0), table_len(record, 1)),
         table_cells(record, 1),
         cut(words, 0, table_len(record, 2)),
         table_cells(record, 2),
-        cut(words, WORDS, table_len(record, 3)),
+        cut(words, table_len(record, 2), table_len(record, 3)),
         table_cells(record, 3),
         lent,
     )
 }
 
 fn read(record: &[u8], bits: &mut [u8], words: &mut [u8], lent: &mut [u8]) -> bool {
-    if BITS < table_len(record, 0) {
+    if bits.len() < table_len(record, 0) + table_len(record, 1) {
         return false;
     }
-    if bits.len() < BITS + table_len(record, 1) {
+    if words.len() < table_len(record, 2) + table_len(record, 3) {
         return false;
     }
-    if WORDS < table_len(record, 2) {
-        return false;
-    }
-    if words.len() < WORDS + table_len(record, 3) {
-        return false;
-    }
-    lay_two(record, 0, bits, BITS);
-    lay_two(record, 2, words, WORDS);
+    lay_two(record, 0, bits);
+    lay_two(record, 2, words);
     left(record, read_called(record, bits, words, lent))
 }
 

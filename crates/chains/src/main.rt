@@ -1,6 +1,6 @@
-// Replays calls of the frame (modules 5 to 7), single ones and the calls of whole chains, with what the crate answered and
-// left. They are read from standard input, one record a line in hexadecimal digits, as the head of calls.rt says. The list
-// beside this program is a sample; bin/frame-runs hands it longer ones.
+// Replays calls of the frame (modules 5 to 7), single ones and those of whole chains, with what the crate answered and
+// left. They are read from standard input, one record a line in hexadecimal digits, as the head of calls.rt says. The
+// list beside this program is a sample; bin/frame-runs hands it longer ones.
 mod calls;
 mod parts;
 mod said;
@@ -37,8 +37,8 @@ fn main() {
     let mut text = io::buffer();
     let mut record = io::buffer();
     let mut lent = io::buffer();
-    let mut bits = [0; 2 * calls::BITS];
-    let mut words = [0; 2 * calls::WORDS];
+    let mut bits = [0; calls::BITS];
+    let mut words = [0; calls::WORDS];
     let t = run(&mut text, &mut record, &mut bits, &mut words, &mut lent);
     records::say(b"calls of the frame replayed: ", t.records);
     records::say(b"calls that differ: ", t.wrong);

@@ -1,5 +1,5 @@
-// The parts of a record of modules 5 to 7, and lent bytes laid before a call and compared after it. The head of calls.rt
-// says what stands where.
+// The parts of a record, and lent bytes laid before a call and compared after it. The head of calls.rt says what stands
+// where.
 use octets::word;
 ghost use Prim.Native.Nat.{_≤_, _<_};
 

@@ -19,7 +19,8 @@ ghost use Prim.Native.Nat.{ℕ, _+_, _<_, _≤_};
 ghost use lib.ListN.{length};
 ghost use Rattle.modbus.specs.Step.{choose};
 ghost use Rattle.frame.specs.State.{fnOf, well, leftPaper, ended};
-ghost use Rattle.frame.specs.Parse.{Headed, copiesHeader, unsupported, answered, byteCount, readAccepted, readParsed, oneParsed, manyAccepted, countable?, manyParsed, requested, named, forUs, addressed, parsed};
+ghost use Rattle.frame.specs.Parse.{Headed, copiesHeader, unsupported, answered, byteCount, readAccepted, readParsed, oneParsed};
+ghost use Rattle.frame.specs.Parse.{manyAccepted, countable?, manyParsed, requested, named, forUs, addressed, parsed};
 
 impl ModbusFrame {
     // The header is copied to the response before later faults.

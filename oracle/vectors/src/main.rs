@@ -171,7 +171,8 @@ struct Writer {
 
 impl Writer {
     fn new(as_text: bool) -> Self {
-        Writer { out: Out::new(), as_text, count: [0; CALLS], seen: [[false; 256]; CALLS], differences: BTreeSet::new() }
+        let (out, differences) = (Out::new(), BTreeSet::new());
+        Writer { out, as_text, count: [0; CALLS], seen: [[false; 256]; CALLS], differences }
     }
 
     fn total(&self) -> usize {

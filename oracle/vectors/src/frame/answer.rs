@@ -1,5 +1,5 @@
-//! What is expected of a call: what the crate leaves over a bounded response, and document 01's answer exactly where the
-//! crate panics. A Vec, which never lacks room, must be left the same wherever the bounded response never lacked any.
+//! What is expected of a call: what the crate leaves over a bounded response, and document 01's answer exactly where
+//! the crate panics. A Vec, which never lacks room, must be left the same where the bounded response never lacked any.
 use super::ask::{ask, number};
 use super::context::Tables;
 use super::foreseen::{panics, Site};

@@ -44,8 +44,8 @@ pub fn ask<V: VectorTrait<u8>>(
     tables: &mut Tables,
 ) -> (Result<Vec<usize>, ErrorKind>, State) {
     let before = response.as_slice().to_vec();
-    let mut frame =
-        ModbusFrame::new(call.state.unit_id, &call.buf, proto(call.state.proto), response).with_broadcast_units(&call.list);
+    let mut frame = ModbusFrame::new(call.state.unit_id, &call.buf, proto(call.state.proto), response)
+        .with_broadcast_units(&call.list);
     if call.which == NEW {
         return (Ok(Vec::new()), state_of(&frame));
     }

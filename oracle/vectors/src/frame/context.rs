@@ -1,5 +1,5 @@
-//! The four lent tables behind the crate's own trait, by document 01's rules: what is outside a table, or data that does
-//! not match its count, is OOBContext and changes nothing; a read adds its data as one extend.
+//! The four lent tables behind the crate's own trait, by document 01's rules: what is outside a table, or data that
+//! does not match its count, is OOBContext and changes nothing; a read adds its data as one extend.
 use super::record::*;
 use crate::drive::model::{bit, put_bit};
 use crate::tables::record::{bytes_of, BITS_TABLES};

@@ -39,8 +39,8 @@ pub fn stream(n: usize, seed: u64) {
     seen.finish();
 }
 
-/// The same, with one field of one record's answer spoilt, each field once; says the numbers of those records. The first
-/// record that has the field is taken, from a place on that is another for each.
+/// The same, with one field of one record's answer spoilt, each field once; says the numbers of those records. The
+/// first record that has the field is taken, from a place on that is another for each.
 pub fn spoilt(n: usize, seed: u64) {
     let mut out = Out::new();
     let mut number = 0;

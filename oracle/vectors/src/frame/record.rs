@@ -33,10 +33,11 @@ pub const FORMAT: &str = "\
 #   bytes 30-56  the state expected
 #   byte 57      the table expected to change: 0 coils, 2 holdings, 255 none
 #   bytes 58-61  the byte from which on it changes
-#   bytes 62-83  the lengths of the eleven parts (2 each) that follow: buf; the list; the front of the lent response
-#                before the call; the lent response expected; the values expected (2 bytes each, as specs/External lists
-#                them); the changed bytes of the table; for calls 32 and 33 the four tables, coils, discretes, holdings
-#                and inputs: of each length (4), cells (8) and the byte that fills it behind its front; the front of each
+#   bytes 62-83  the lengths (2 each) of the eleven parts that follow: buf; the list; the front of the lent response
+#                before the call; the lent response expected; the values expected (2 bytes each, as the specs of
+#                the crate frame list them); the changed bytes of the table; for calls 32 and 33 the four tables,
+#                coils, discretes, holdings and inputs: of each length (4), cells (8) and the byte that fills it
+#                behind its front; the front of each
 #   Before the call byte i of the lent response behind its front is (0x5A + i) % 256.
 ";
 

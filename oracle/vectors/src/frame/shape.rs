@@ -119,14 +119,18 @@ pub fn damage(chance: &mut Chance, bytes: &mut Vec<u8>) {
     }
 }
 
-/// Small tables, some with spare bytes, some too short for their cells, some of more cells than there may be, a few of
-/// 65,536 cells.
+/// Small tables, some with spare bytes, some too short for their cells, some of more cells than there may be; now and
+/// then one of about 65,536 cells, and not two, so that the program that replays them needs room for one.
 pub fn tables(chance: &mut Chance) -> [Lent; 4] {
+    let mut large = false;
     [COILS, DISCRETES, HOLDINGS, INPUTS].map(|which| {
         let bits = BITS_TABLES[which];
         let cells = match chance.below(2000) {
-            0 => chance.near(MOST, 1),
-            1..=200 => chance.below(41),
+            0 if !large => {
+                large = true;
+                chance.near(MOST, 1)
+            }
+            0..=200 => chance.below(41),
             201..=300 => 0,
             _ if bits => chance.below(26),
             _ => chance.below(8),
