@@ -4,10 +4,11 @@ use checks::hex_to_chr;
 use modbus::ByteAnswer;
 use modbus::ErrorKind;
 use modbus::SizeAnswer;
+use octets::least;
 use octets::put_byte;
 ghost use mathlib.Core.Path.{_≡_};
 ghost use mathlib.Core.Bool.{true, false};
-ghost use Prim.Native.Nat.{_+_, _*_, _<_, _≤_, min};
+ghost use Prim.Native.Nat.{_+_, _*_, _<_, _≤_};
 ghost use lib.ListN.{length, getD, take, drop};
 ghost use lib.Seq.{sets};
 ghost use Rattle.modbus.specs.Step.{choose, _≤?_, _≟_};
@@ -67,12 +68,6 @@ fn colon(c: u8) -> usize
     ensures { λ r. ⌜ r ≡ choose (c ≟ 58) 1 0 ⌝ }
 {
     if c == 58 { 1 } else { 0 }
-}
-
-fn least(m: usize, n: usize) -> usize
-    ensures { λ r. ⌜ r ≡ min m n ⌝ }
-{
-    if m <= n { m } else { n }
 }
 
 // 0 for a digit 0-9 or A-F, 1 for any other character.

@@ -2,15 +2,21 @@
 // record a line, as the head of the list says. Every case lays its tables afresh, and compares outcome, code, the whole
 // reply buffer and all four tables.
 use dalonjang::Driven;
+use octets::byte;
+use octets::word;
 use records::Tally;
-ghost use Prim.Native.Nat.{_≤_, _<_};
+use records::parts::eight;
+use records::parts::lay;
+use records::parts::stands;
+use records::parts::wide;
+ghost use Prim.Native.Nat.{_≤_};
 
 // Where the descriptions of the tables stand in a record, the lengths of its parts, and the parts.
 const TABLES: usize = 11;
 
-const LENGTHS: usize = 63;
+const LENGTHS: u16 = 63;
 
-const PARTS: usize = 79;
+const PARTS: u16 = 79;
 
 // How many parts there are: broadcast list, frame, reply, changed bytes, and the front of each table.
 const COUNT: u8 = 8;
@@ -22,41 +28,9 @@ const WORDS: usize = 131074;
 
 const ROOM: usize = 1024;
 
-// Numbers of one and of four bytes, high byte first; what lies outside the record is 0.
-fn byte(record: &[u8], at: usize) -> u8 {
-    (octets::word(record, at) / 256) as u8
-}
-
-fn wide(record: &[u8], at: usize) -> usize
-    ensures { λ r. ⌜ r < 4294967296 ⌝ }
-{
-    if record.len() <= at {
-        return 0;
-    }
-    let high = octets::word(record, at) as usize;
-    let low = octets::word(record, at + 2) as usize;
-    high * 65536 + low
-}
-
-// Where the part k begins.
-fn start_of(record: &[u8], k: u8) -> usize
-    ensures { λ r. ⌜ r ≤ 16777216 ⌝ }
-{
-    let mut at = PARTS;
-    for i in 0..k {
-        at += octets::word(record, LENGTHS + 2 * (i as usize)) as usize;
-    }
-    at
-}
-
-// The part k; empty where the record ends before it does.
+// The part k.
 fn part(record: &[u8], k: u8) -> &[u8] {
-    let from = start_of(record, k);
-    let to = from + octets::word(record, LENGTHS + 2 * (k as usize)) as usize;
-    if record.len() < to {
-        return &record[0..0];
-    }
-    &record[from..to]
+    records::parts::part(record, LENGTHS, PARTS, k)
 }
 
 // Where the description of the table t stands: its length, its cells, the byte that fills it.
@@ -68,42 +42,7 @@ fn table_at(t: u8) -> usize
 
 // How many cells the table t is said to have, a number of eight bytes: document 01's limits are tried from above too.
 fn cells(record: &[u8], t: u8) -> usize {
-    let at = table_at(t) + 4;
-    wide(record, at) * 4294967296 + wide(record, at + 4)
-}
-
-// The byte i of a buffer that holds `front`, and then the byte `filler` to its end.
-fn laid(i: usize, front: &[u8], filler: u8) -> u8 {
-    if i < front.len() {
-        return front[i];
-    }
-    filler
-}
-
-fn lay(buffer: &mut [u8], front: &[u8], filler: u8) {
-    for i in 0..buffer.len() {
-        buffer[i] = laid(i, front, filler);
-    }
-}
-
-// Whether a buffer is as it was laid, except that `now` stands in it from the byte `at` on.
-fn stands(buffer: &[u8], front: &[u8], filler: u8, at: usize, now: &[u8]) -> bool {
-    if buffer.len() < at {
-        return false;
-    }
-    if buffer.len() - at < now.len() {
-        return false;
-    }
-    for i in 0..buffer.len() {
-        let mut want = laid(i, front, filler);
-        if at <= i {
-            want = laid(i - at, now, want);
-        }
-        if buffer[i] != want {
-            return false;
-        }
-    }
-    true
+    eight(record, table_at(t) + 4)
 }
 
 fn lay_table(record: &[u8], t: u8, table: &mut [u8])
@@ -215,7 +154,7 @@ fn cut_written(
 ) -> bool {
     let c = wide(record, table_at(0));
     let h = wide(record, table_at(2));
-    let room = octets::word(record, 4) as usize;
+    let room = word(record, 4) as usize;
     if coils.len() < c {
         return false;
     }
@@ -275,7 +214,7 @@ fn with_read(record: &[u8], filler: u8) -> bool {
 // Whether all comes out as the record says. It runs twice, with two fillers: a byte written behind the reply cannot be
 // equal to both.
 fn agrees(record: &[u8]) -> bool {
-    if record.len() != start_of(record, COUNT) {
+    if record.len() != records::parts::start_of(record, LENGTHS, PARTS, COUNT) {
         return false;
     }
     if !with_read(record, 0) {

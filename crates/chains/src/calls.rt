@@ -17,15 +17,9 @@
 //                coils, discretes, holdings and inputs: of each length (4), cells (8) and the byte that fills it
 //                behind its front; the front of each
 //   Before the call byte i of the lent response behind its front is (0x5A + i) % 256.
-use crate::parts::byte;
-use crate::parts::cut;
-use crate::parts::eight;
-use crate::parts::lay;
 use crate::parts::lay_response;
 use crate::parts::part;
-use crate::parts::stands;
-use crate::parts::start_of;
-use crate::parts::wide;
+use crate::parts::whole;
 use crate::said::bare;
 use crate::said::changes;
 use crate::said::left;
@@ -35,15 +29,18 @@ use crate::said::write_left;
 use crate::state::state;
 use frame::Left;
 use frame::ModbusFrame;
+use octets::byte;
+use records::parts::cut;
+use records::parts::eight;
+use records::parts::lay;
+use records::parts::stands;
+use records::parts::wide;
 ghost use Prim.Native.Nat.{_≤_, _<_};
 
-// How many parts a record has.
-const COUNT: u8 = 11;
-
 // Room for a table of 65,536 bits or words, and for a short one behind it.
-pub const BITS: usize = 8400;
+pub(crate) const BITS: usize = 8400;
 
-pub const WORDS: usize = 131400;
+pub(crate) const WORDS: usize = 131400;
 
 // A call to which no table is lent.
 fn called(record: &[u8], lent: &mut [u8]) -> bool {
@@ -208,8 +205,8 @@ fn served(record: &[u8], bits: &mut [u8], words: &mut [u8], lent: &mut [u8]) -> 
 }
 
 // Whether all comes out as the record says.
-pub fn agrees(record: &[u8], bits: &mut [u8], words: &mut [u8], lent: &mut [u8]) -> bool {
-    if record.len() != start_of(record, COUNT) {
+pub(crate) fn agrees(record: &[u8], bits: &mut [u8], words: &mut [u8], lent: &mut [u8]) -> bool {
+    if !whole(record) {
         return false;
     }
     let m = part(record, 3).len();

@@ -1,5 +1,4 @@
 // Whether a call answered and left what is expected, in numbers.
-use crate::parts::byte;
 use crate::parts::part;
 use crate::state::same_state;
 use external::Data;
@@ -16,10 +15,11 @@ use frame::changes::Changes;
 use modbus::DoneAnswer;
 use modbus::ErrorKind;
 use modbus::kind_number;
+use octets::byte;
 use octets::word;
 
 // What is reported to a call.
-pub fn reported(number: u8) -> Reported {
+pub(crate) fn reported(number: u8) -> Reported {
     match number {
         1 => Reported::IllegalFunction,
         2 => Reported::IllegalDataAddress,
@@ -43,14 +43,14 @@ fn told(record: &[u8], kind: u8, s: ModbusFrame) -> bool {
 }
 
 // The same, and no values.
-pub fn bare(record: &[u8], kind: u8, s: ModbusFrame) -> bool {
+pub(crate) fn bare(record: &[u8], kind: u8, s: ModbusFrame) -> bool {
     if part(record, 4).len() != 0 {
         return false;
     }
     told(record, kind, s)
 }
 
-pub fn left(record: &[u8], l: Left) -> bool {
+pub(crate) fn left(record: &[u8], l: Left) -> bool {
     let answer = l.answer;
     let s = l.frame;
     match answer {
@@ -86,7 +86,7 @@ fn others(record: &[u8], a: usize, b: usize, c: usize) -> bool {
     word(want, 10) as usize == c
 }
 
-pub fn read_left(record: &[u8], l: ReadLeft) -> bool {
+pub(crate) fn read_left(record: &[u8], l: ReadLeft) -> bool {
     let answer = l.answer;
     let s = l.frame;
     match answer {
@@ -102,7 +102,7 @@ fn read(record: &[u8], r: Read) -> bool {
     }
 }
 
-pub fn write_left(record: &[u8], l: WriteLeft) -> bool {
+pub(crate) fn write_left(record: &[u8], l: WriteLeft) -> bool {
     let answer = l.answer;
     let s = l.frame;
     match answer {
@@ -134,7 +134,7 @@ fn data(record: &[u8], of: u16, address: u16, count: u16, d: Data) -> bool {
     }
 }
 
-pub fn changes(record: &[u8], s: ModbusFrame) -> bool {
+pub(crate) fn changes(record: &[u8], s: ModbusFrame) -> bool {
     match s.changes() {
         Changes::Coils(reg, count) => told(record, 0, s) && cells(record, 3, 0, reg, count),
         Changes::Holdings(reg, count) => told(record, 0, s) && cells(record, 3, 1, reg, count),

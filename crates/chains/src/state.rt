@@ -1,6 +1,4 @@
 // The state of a frame as it stands in a record.
-use crate::parts::byte;
-use crate::parts::eight;
 use frame::FunctionAnswer;
 use frame::ModbusError;
 use frame::ModbusFrame;
@@ -9,7 +7,9 @@ use frame::function_of;
 use modbus::ModbusProto;
 use modbus::ProtoAnswer;
 use modbus::proto_of;
+use octets::byte;
 use octets::word;
+use records::parts::eight;
 
 // Where the states before and after the call stand in a record.
 const BEFORE: usize = 2;
@@ -59,7 +59,7 @@ fn error(set: u8, code: u8) -> ModbusError {
 }
 
 // The state before the call.
-pub fn state(record: &[u8]) -> ModbusFrame {
+pub(crate) fn state(record: &[u8]) -> ModbusFrame {
     let set = byte(record, BEFORE + 2);
     ModbusFrame {
         unit_id: byte(record, BEFORE),
@@ -98,7 +98,7 @@ fn same_flags(set: u8, processing_required: bool, response_required: bool, reado
 }
 
 // Whether the state is the one expected.
-pub fn same_state(record: &[u8], s: ModbusFrame) -> bool {
+pub(crate) fn same_state(record: &[u8], s: ModbusFrame) -> bool {
     if s.unit_id != byte(record, AFTER) {
         return false;
     }

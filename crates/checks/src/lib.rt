@@ -1,14 +1,16 @@
 // The checks of MODBUS over serial lines, and the hexadecimal digits of its ASCII form.
 use modbus::ByteAnswer;
 use modbus::ErrorKind;
+use octets::least;
 ghost use mathlib.Core.Path.{_≡_};
-ghost use lib.ListN.{take};
+ghost use Prim.Native.Nat.{_*_, _/_, _≤_};
+ghost use lib.ListN.{length, take, drop};
 ghost use Rattle.modbus.specs.Paper.{told, bytePaper};
-ghost use Rattle.modbus.specs.Check.{shift, crcByte, crc};
+ghost use Rattle.modbus.specs.Check.{shift, crcByte, crcFrom, crc};
 ghost use Rattle.modbus.specs.Hex.{undigit, character};
 ghost use Rattle.checks.specs.Within.{lrcWithin};
 
-fn crc_shift(crc: u16) -> u16
+fn crc_shift(crc: u32) -> u32
     ensures { λ r. ⌜ r ≡ shift «crc» ⌝ }
 {
     if (crc & 0x0001) == 0 {
@@ -19,28 +21,85 @@ fn crc_shift(crc: u16) -> u16
 }
 
 // The register after one byte. The compiler turns this loop into a table of 256 entries; eight shifts written out lose that.
-fn crc_byte(crc: u16, b: u8) -> u16
+fn crc_byte(crc: u32, b: u8) -> u32
     ensures { λ r. ⌜ r ≡ crcByte «crc» b ⌝ }
 {
-    let mut c = crc ^ (b as u16);
+    let mut c = crc ^ (b as u32);
     for _ in 0..8u8 {
         c = crc_shift(c);
     }
     c
 }
 
+// The register after two bytes, taken as one number: the one that is not shifted out yet waits in the register's upper part.
+fn crc_two(crc: u32, first: u8, second: u8) -> u32
+    ensures { λ r. ⌜ r ≡ crcByte (crcByte «crc» first) second ⌝ }
+{
+    let mut c = crc ^ ((second as u32) * 256 + first as u32);
+    for _ in 0..16u8 {
+        c = crc_shift(c);
+    }
+    c
+}
+
+// The same for four.
+fn crc_four(crc: u32, first: u8, second: u8, third: u8, fourth: u8) -> u32
+    ensures { λ r. ⌜ r ≡ crcByte (crcByte (crcByte (crcByte «crc» first) second) third) fourth ⌝ }
+{
+    let high = (fourth as u32) * 256 + third as u32;
+    let low = (second as u32) * 256 + first as u32;
+    let mut c = crc ^ (high * 65536 + low);
+    for _ in 0..32u8 {
+        c = crc_shift(c);
+    }
+    c
+}
+
+// The register after as many fours as n bytes have.
+fn crc_fours(frame: &[u8], n: usize) -> u32
+    requires { ⌜ n ≤ length (now frame) ⌝ }
+    ensures { λ r. ⌜ crcFrom r (drop (4 * (n / 4)) (take n (now (frame .entry)))) ≡ crc (take n (now (frame .entry))) ⌝ }
+{
+    let mut c: u32 = 0xffff;
+    for k in 0..n / 4 {
+        let i = 4 * k;
+        c = crc_four(c, frame[i], frame[i + 1], frame[i + 2], frame[i + 3]);
+    }
+    c
+}
+
+// The register after the two bytes that come after the fours, if n bytes have these.
+fn crc_pair(crc: u32, frame: &[u8], n: usize) -> u32
+    requires { ⌜ n ≤ length (now frame) ⌝ }
+    ensures { λ r. ⌜ crcFrom r (drop (2 * (n / 2)) (take n (now (frame .entry)))) ≡ crcFrom «crc» (drop (4 * (n / 4)) (take n (now (frame .entry)))) ⌝ }
+{
+    if n % 4 < 2 {
+        return crc;
+    }
+    let i = 4 * (n / 4);
+    crc_two(crc, frame[i], frame[i + 1])
+}
+
+// The register after the last byte, if n is odd.
+fn crc_last(crc: u32, frame: &[u8], n: usize) -> u32
+    requires { ⌜ n ≤ length (now frame) ⌝ }
+    ensures { λ r. ⌜ r ≡ crcFrom «crc» (drop (2 * (n / 2)) (take n (now (frame .entry)))) ⌝ }
+{
+    if n % 2 == 0 {
+        return crc;
+    }
+    crc_byte(crc, frame[n - 1])
+}
+
 // The CRC of the first `data_length` bytes of the frame, or of all where it has fewer.
 pub fn calc_crc16(frame: &[u8], data_length: u8) -> u16
     ensures { λ r. ⌜ r ≡ crc (take «data_length» (now (frame .entry))) ⌝ }
 {
-    let mut c: u16 = 0xffff;
-    let n = data_length as usize;
-    let mut i: usize = 0;
-    while i < n && i < frame.len() {
-        c = crc_byte(c, frame[i]);
-        i += 1;
-    }
-    c
+    let n = least(data_length as usize, frame.len());
+    let fours = crc_fours(frame, n);
+    let pairs = crc_pair(fours, frame, n);
+    let c = crc_last(pairs, frame, n);
+    (c % 65536) as u16
 }
 
 // The LRC of the first `data_length` bytes of the frame; where it has fewer, FrameBroken.

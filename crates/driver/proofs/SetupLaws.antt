@@ -29,9 +29,6 @@ proto-tcp zero h k = absurd (h refl)
 proto-tcp (suc zero) h k = absurd (k refl)
 proto-tcp (suc (suc n)) h k = refl
 
-pub source-ascii : (n : ℕ) (f raw : List ℕ) → n ≡ 1 → source (protoOf n) f raw ≡ raw
-source-ascii n f raw e = rw e
-
 pub source-other : (n : ℕ) (f raw : List ℕ) → ¬ (n ≡ 1) → source (protoOf n) f raw ≡ f
 source-other zero f raw ne = refl
 source-other (suc zero) f raw ne = absurd (ne refl)

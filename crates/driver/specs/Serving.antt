@@ -26,7 +26,7 @@ use Rattle.frames.specs.declared.Opened.the-variants.{Body, Broken, Check}
 use Rattle.driver.specs.Driven.{paper, setupOf, coilsAfter, holdingsAfter, Given, settled}
 use Rattle.driver.specs.declared.Cells.{Cells}
 use Rattle.driver.specs.declared.Served.{Served}
-use Rattle.driver.specs.declared.Served.the-variants.{Quiet, Coded, Reply}
+use Rattle.driver.specs.declared.Served.the-variants.{Quiet, Sent}
 
 -- ---- the lent tables
 
@@ -56,14 +56,13 @@ pub data Turn : Type 0 where
 -- as the code says it, with the bytes that it has prepared
 abbrev pub turnOf : Served → List ℕ → Turn
 turnOf (Quiet o) out = hushed (paper o)
-turnOf (Coded c) out = refused c (take 3 out)
-turnOf (Reply n) out = answered (take n out)
+turnOf (Sent n zero) out = answered (take n out)
+turnOf (Sent n (suc c)) out = refused (suc c) (take n out)
 
 -- a reply's body has room in every frame
 abbrev pub Brief : Served → Type 0
 Brief (Quiet o) = Unit {0}
-Brief (Coded c) = Unit {0}
-Brief (Reply n) = n ≤ 253
+Brief (Sent n c) = n ≤ 253
 
 abbrev pub refusal : List ℕ → ℕ → Turn
 refusal b c = refused c (getD b 0 0 ∷ exception (getD b 1 0) c)
@@ -136,6 +135,27 @@ abbrev pub tagged : ModbusProto → ℕ → ℕ → List ℕ
 tagged Rtu high low = []
 tagged Ascii high low = []
 tagged TcpUdp high low = high ∷ low ∷ []
+
+-- whether nothing is sent; else how many bytes the reply's body has
+abbrev pub mute : Bool → Served → Bool
+mute true s = true
+mute false (Quiet o) = true
+mute false (Sent n c) = false
+
+abbrev pub sizeOf : Served → ℕ
+sizeOf (Quiet o) = 0
+sizeOf (Sent n c) = n
+
+-- the outcome where nothing is sent, and where a frame of so many bytes is
+abbrev pub unsentOf : Served → ℕ × ℕ × ℕ
+unsentOf (Quiet o) = paper o
+unsentOf (Sent n zero) = (1, 0, 0)
+unsentOf (Sent n (suc c)) = (3, suc c, 0)
+
+abbrev pub sentOf : Served → ℕ → ℕ × ℕ × ℕ
+sentOf (Quiet o) m = paper o
+sentOf (Sent n zero) m = (0, 0, m)
+sentOf (Sent n (suc c)) m = (2, suc c, m)
 
 -- the outcome and the reply buffer; a broadcast is never answered
 abbrev pub shut : ModbusProto → List ℕ → Bool → List ℕ → Turn → (ℕ × ℕ × ℕ) × List ℕ

@@ -35,7 +35,7 @@ ghost use Rattle.tables.specs.Lent.{lentOf};
 ghost use Rattle.requests.specs.Parse.{on?, weighed};
 ghost use Rattle.frames.specs.Opened.{laid};
 ghost use Rattle.driver.specs.Driven.{paper, setupOf, given, called};
-ghost use Rattle.driver.specs.Serving.{lentIn, Sized, tabOf, turnOf, Brief, answered, refusal, fetched, readFrom, cellsWritten, turned, served, tagged, shut, handled, Unframed, startOf, Low, faulted};
+ghost use Rattle.driver.specs.Serving.{lentIn, Sized, tabOf, turnOf, Brief, answered, refusal, fetched, readFrom, cellsWritten, turned, served, tagged, mute, sizeOf, unsentOf, sentOf, shut, handled, source, Unframed, startOf, Low, faulted};
 
 // Document 01's outcomes: a reply's length and an exception's code where there are any.
 pub enum Outcome {
@@ -68,12 +68,11 @@ struct Line {
     low: u8,
 }
 
-// A request served: no reply, an exception's code, or a reply's length. What is sent stands in a scratch array, from the unit on and without
-// the transport's bytes.
+// A request served: no reply, or how many bytes are sent and the exception's code, 0 where it is an answer. What is sent stands in a scratch
+// array, from the unit on and without the transport's bytes.
 enum Served {
     Quiet(Outcome),
-    Coded(u8),
-    Reply(u8),
+    Sent(u8, u8),
 }
 
 fn fits_bits(len: usize, cells: usize) -> bool
@@ -141,14 +140,14 @@ fn room_for(transport: u8) -> usize
 
 // An exception: the function's number with its highest bit set, and a code.
 fn refuse(body: &[u8], code: u8, out: &mut [u8]) -> Served
-    requires { ⌜ (2 ≤ length (now body)) × (getD (now body) 1 0 ≤ 127) × (length (now out) ≡ 256) ⌝ }
+    requires { ⌜ (2 ≤ length (now body)) × (getD (now body) 1 0 ≤ 127) × (1 ≤ code) × (length (now out) ≡ 256) ⌝ }
     ensures { λ r. ⌜ turnOf r (now (out .exit)) ≡ refusal (now (body .entry)) code ⌝ }
     ensures { λ r. ⌜ Brief r ⌝ }
 {
     out[0] = body[0];
     out[1] = body[1] + 128;
     out[2] = code;
-    Served::Coded(code)
+    Served::Sent(3, code)
 }
 
 // A request that is not served, by its fault.
@@ -204,7 +203,7 @@ fn head(body: &[u8], end: usize, out: &mut [u8]) -> Served
     out[0] = body[0];
     out[1] = body[1];
     out[2] = (end - 3) as u8;
-    Served::Reply(end as u8)
+    Served::Sent(end as u8, 0)
 }
 
 fn read(
@@ -250,7 +249,7 @@ fn echo(body: &[u8], out: &mut [u8]) -> Served
     for i in 0..6usize {
         out[i] = body[i];
     }
-    Served::Reply(6)
+    Served::Sent(6, 0)
 }
 
 fn write_bits(
@@ -352,26 +351,68 @@ fn seal(line: Line, out: &[u8; 256], n: u8, reply: &mut [u8]) -> usize
     seal_tcp(line.high, line.low, out, n, reply)
 }
 
+// Whether nothing is sent.
+fn unanswered(broadcast: bool, served: Served) -> bool
+    ensures { λ r. ⌜ r ≡ mute broadcast served ⌝ }
+{
+    if broadcast {
+        return true;
+    }
+    match served {
+        Served::Quiet(_) => true,
+        Served::Sent(_, _) => false,
+    }
+}
+
+// How many bytes the body of a reply has.
+fn size_of(served: Served) -> u8
+    ensures { λ r. ⌜ r ≡ sizeOf served ⌝ }
+{
+    match served {
+        Served::Quiet(_) => 0,
+        Served::Sent(n, _) => n,
+    }
+}
+
+// The outcome where nothing is sent, and where a frame of so many bytes is.
+fn unsent(served: Served) -> Outcome
+    ensures { λ r. ⌜ paper r ≡ unsentOf served ⌝ }
+{
+    match served {
+        Served::Quiet(outcome) => outcome,
+        Served::Sent(_, code) => {
+            if code == 0 {
+                return Outcome::BroadcastDone;
+            }
+            Outcome::BroadcastIgnored(code)
+        }
+    }
+}
+
+fn sent(served: Served, length: usize) -> Outcome
+    ensures { λ r. ⌜ paper r ≡ sentOf served length ⌝ }
+{
+    match served {
+        Served::Quiet(outcome) => outcome,
+        Served::Sent(_, code) => {
+            if code == 0 {
+                return Outcome::Answered(length);
+            }
+            Outcome::Exception(length, code)
+        }
+    }
+}
+
 // What is sent, and document 01's outcome.
 fn close(line: Line, broadcast: bool, served: Served, out: &[u8; 256], reply: &mut [u8]) -> Outcome
     requires { ⌜ Brief served × (roomFor (protoOf (line .transport)) ≤ length (now reply)) ⌝ }
     ensures { λ r. ⌜ (paper r, now (reply .exit)) ≡ shut (protoOf (line .transport)) (tagged (protoOf (line .transport)) (line .high) (line .low)) broadcast (now (reply .entry)) (turnOf served (now (out .entry))) ⌝ }
 {
-    match served {
-        Served::Quiet(outcome) => outcome,
-        Served::Coded(code) => {
-            if broadcast {
-                return Outcome::BroadcastIgnored(code);
-            }
-            Outcome::Exception(seal(line, out, 3, reply), code)
-        }
-        Served::Reply(n) => {
-            if broadcast {
-                return Outcome::BroadcastDone;
-            }
-            Outcome::Answered(seal(line, out, n, reply))
-        }
+    if unanswered(broadcast, served) {
+        return unsent(served);
     }
+    let n = size_of(served);
+    sent(served, seal(line, out, n, reply))
 }
 
 // Whether a unit number means us: a broadcast number does, whatever our own.
@@ -452,6 +493,16 @@ fn unframe(transport: u8, frame: &[u8], raw: &mut [u8; 256]) -> Opened
     open_tcp(frame)
 }
 
+// Where a frame's body stands: ASCII is decoded. One call of `handle` for all transports: so the compiler writes it in place.
+fn body_source<'a>(transport: u8, raw: &'a [u8], frame: &'a [u8]) -> &'a [u8]
+    ensures { λ r. ⌜ now r ≡ source (protoOf transport) (now (frame .entry)) (now (raw .entry)) ⌝ }
+{
+    if transport == 1 {
+        return raw;
+    }
+    frame
+}
+
 // A call with a good setup and room for the reply.
 fn receive(
     transport: u8,
@@ -482,23 +533,9 @@ fn receive(
                 high: frame[0],
                 low: frame[1],
             };
-            if transport == 1 {
-                return handle(
-                    line,
-                    &raw,
-                    n,
-                    list,
-                    coils,
-                    discretes,
-                    holdings,
-                    inputs,
-                    cells,
-                    reply,
-                );
-            }
             handle(
                 line,
-                frame,
+                body_source(transport, &raw, frame),
                 n,
                 list,
                 coils,

@@ -26,14 +26,14 @@ pub shift-one : (c : ℕ) → (bitAnd c 1 ≡ 0 → ⊥) → bitXor (c / 2) 0xA0
 unfolding shift
 shift-one c ne = sym (pick-yes _ _ _ (omega (arith, and-mask c 1, ne)))
 
--- one of the eight shifts, of which i are done
-pub shifts-step : (i c d z : ℕ) → shifts (8 - i) c ≡ z → d ≡ shift c → i < 8 → shifts (8 - (i + 1)) d ≡ z
+-- one of the n shifts, of which i are done
+pub shifts-step : (n i c d z : ℕ) → shifts (n - i) c ≡ z → d ≡ shift c → i < n → shifts (n - (i + 1)) d ≡ z
 unfolding shifts
-shifts-step i c d z inv e h = let k : 8 - i ≡ suc (8 - (i + 1)) = omega arith in rw e (rw k at inv)
+shifts-step n i c d z inv e h = let k : n - i ≡ suc (n - (i + 1)) = omega arith in rw e (rw k at inv)
 
-pub shifts-done : (i c z : ℕ) → shifts (8 - i) c ≡ z → 8 ≤ i → c ≡ z
+pub shifts-done : (n i c z : ℕ) → shifts (n - i) c ≡ z → n ≤ i → c ≡ z
 unfolding shifts
-shifts-done i c z inv h = let k : 8 - i ≡ 0 = omega arith in rw k at inv
+shifts-done n i c z inv h = let k : n - i ≡ 0 = omega arith in rw k at inv
 
 -- one byte of the first n: those from i on are the byte at i and those from i + 1 on
 pub crc-step : (s : List ℕ) (n i c d z : ℕ) → crcFrom c (drop i (take n s)) ≡ z → d ≡ crcByte c (getD s i 0)

@@ -1,12 +1,20 @@
 // Small total functions on bytes: a byte outside the slice reads as 0, and a byte put outside it changes nothing.
 ghost use mathlib.Core.Bool.{true, false};
 ghost use mathlib.Core.Path.{_≡_};
+ghost use Prim.Native.Nat.{min};
 ghost use Rattle.modbus.specs.Bytes.{wordAt};
 ghost use Rattle.modbus.specs.Step.{choose};
 ghost use Rattle.modbus.specs.Unit.{listed?};
 ghost use Rattle.octets.specs.Put.{byteAt, putByte};
 
-fn byte(s: &[u8], at: usize) -> u8
+// The smaller of two lengths.
+pub fn least(m: usize, n: usize) -> usize
+    ensures { λ r. ⌜ r ≡ min m n ⌝ }
+{
+    if m <= n { m } else { n }
+}
+
+pub fn byte(s: &[u8], at: usize) -> u8
     ensures { λ r. ⌜ r ≡ byteAt (now (s .entry)) at ⌝ }
 {
     if at < s.len() {

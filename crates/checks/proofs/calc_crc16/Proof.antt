@@ -1,70 +1,44 @@
--- `checks::calc_crc16` meets its contract. The loop's invariant: the bytes that are left take the register to the result.
+-- `checks::calc_crc16` meets its contract: the bytes that each step leaves take the register to the result.
 -- Assumes nothing.
-use mathlib.Core.Path.{_≡_, refl, sym, _∙_}
-use Prim.Native.Nat.{_≤_, _-_}
+use mathlib.Core.Path.{_∙_}
+use Prim.Native.Nat.{ℕ, _<_}
 use native.Mathlib.Omega.{arith}
 use borrow.Author.Needs.{needs}
-use borrow.Author.Tests.{ltb-true, ltb-false}
-use lib.ListN.{length, take, drop}
-use Rattle.modbus.specs.Check.{crcFrom, crc}
-use Rattle.modbus.proofs.CheckLaws.{crc-step, crc-done}
+use lib.ListN.{getD}
+use Rattle.checks.proofs.FourLaws.{crc-whole}
 use Rattle.checks.proofs.calc_crc16.Statement.{statement}
 use Rattle.checks.proofs.calc_crc16.Tie as tie
 
-abbrev Inv-loop : tie.InvT-loop
-Inv-loop frame data-length c₀ n i₀ c i = (i ≤ n) × (crcFrom c (drop i (take n frame)) ≡ crc (take n frame))
+least-requires : tie.Need-least-requires
+least-requires c κs = search needs
 
-abbrev μ-loop : tie.MeasureT-loop
-μ-loop frame data-length c₀ n i₀ c i = n - i
+crc-fours-requires : tie.Need-crc-fours-requires
+crc-fours-requires c κs = search needs
 
-loop-holds : tie.Need-loop-holds Inv-loop μ-loop
-unfolding crc
-loop-holds c = (omega arith, refl)
+crc-pair-requires : tie.Need-crc-pair-requires
+crc-pair-requires c κs = search needs
 
-shared-slice-read-crc-byte : tie.Need-shared-slice-read-crc-byte Inv-loop μ-loop
-shared-slice-read-crc-byte c = omega (arith, ltb-true)
+crc-last-requires : tie.Need-crc-last-requires
+crc-last-requires c κs = search needs
 
-crc-byte-requires : tie.Need-crc-byte-requires Inv-loop μ-loop
-crc-byte-requires c κs = search needs
+cast-result : tie.Need-cast-result
+cast-result c = search needs
 
-add-i : tie.Need-add-i Inv-loop μ-loop
-add-i c = omega (arith, ltb-true)
-
-loop-less : tie.Need-loop-less Inv-loop μ-loop
-loop-less c = omega arith
-
-loop-again : tie.Need-loop-again Inv-loop μ-loop
-loop-again c =
-    let l = c .before .before .before .before in
-    let a = l .before .before .args in (
-      omega arith,
-      crc-step (a .frame .now) (a .data-length) (l .loop .i) _ _ _ (l .loop .inv .1) (c .crc-byte .ensures)
-          (omega arith) (omega (arith, ltb-true)),
-    )
-
-returns : tie.Need-returns Inv-loop μ-loop
+returns : tie.Need-returns
 returns c =
-    let l = c .before .before in
-    let a = l .before .before .args in
-    crc-done (a .frame .now) (a .data-length) (l .loop .i) _ _ (l .loop .inv .1) (omega (arith, ltb-false))
-
-returns-2 : tie.Need-returns-2 Inv-loop μ-loop
-returns-2 c =
-    let l = c .before in
-    let a = l .before .before .args in
-    crc-done (a .frame .now) (a .data-length) (l .loop .i) _ _ (l .loop .inv .1) (omega arith)
+    let p = c .before .before .before in
+    let a = p .before .before .args in
+    let y : (i : ℕ) → getD (a .frame .now) i 0 < 256 = λ i. omega (arith, p .before .shared-slice-known .given i) in
+    let e = c .crc-last .ensures ∙ c .before .crc-pair .ensures ∙ c .before .before .crc-fours .ensures in
+    crc-whole (a .frame .now) (a .data-length) (p .least .result) _ y (p .least .ensures) e
 
 pub calc-crc16-spec : {M : Type 1} → statement M
 calc-crc16-spec =
     tie.close
     (tie.spec
-    Inv-loop
-    μ-loop
-    loop-holds
-    shared-slice-read-crc-byte
-    crc-byte-requires
-    add-i
-    loop-less
-    loop-again
-    returns
-    returns-2)
+    least-requires
+    crc-fours-requires
+    crc-pair-requires
+    crc-last-requires
+    cast-result
+    returns)

@@ -29,10 +29,10 @@ loop-less : tie.Need-loop-less Inv-loop μ-loop
 loop-less c = omega arith
 
 loop-again : tie.Need-loop-again Inv-loop μ-loop
-loop-again c = (omega arith, shifts-step _ _ _ _ (c .before .before .loop .inv .1) (c .crc-shift .ensures) (omega arith))
+loop-again c = (omega arith, shifts-step 8 _ _ _ _ (c .before .before .loop .inv .1) (c .crc-shift .ensures) (omega arith))
 
 returns : tie.Need-returns Inv-loop μ-loop
-returns c = shifts-done _ _ _ (c .before .loop .inv .1) (omega arith)
+returns c = shifts-done 8 _ _ _ (c .before .loop .inv .1) (omega arith)
 
 pub crc-byte-spec : {M : Type 1} → statement M
 crc-byte-spec =

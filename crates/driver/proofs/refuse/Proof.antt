@@ -1,9 +1,11 @@
 -- `driver::refuse` meets its contract.
 -- Assumes nothing.
+use mathlib.Core.Path.{_∙_}
 use Prim.Native.Nat.{_≤_}
 use native.Mathlib.Omega.{arith}
 use lib.ListN.{length}
 use Rattle.driver.proofs.ServingLaws.{front-three}
+use Rattle.driver.proofs.FramedLaws.{coded}
 use borrow.Author.Needs.{needs}
 use Rattle.driver.proofs.refuse.Statement.{statement}
 use Rattle.driver.proofs.refuse.Tie as tie
@@ -31,8 +33,9 @@ same-length c = search needs
 
 returns : tie.Need-returns
 returns c =
-    let h : 3 ≤ length (c .before .before .args .out .now) = omega arith in
-    (rw front-three, tt)
+    let s = c .before .before in
+    let h : 3 ≤ length (s .args .out .now) = omega arith in
+    (coded 3 (s .args .code) _ (s .pre .2) ∙ rw front-three, omega arith)
 
 pub refuse-spec : {M : Type 1} → statement M
 refuse-spec =

@@ -7,8 +7,8 @@ use borrow.Author.Needs.{needs}
 use Rattle.chains.proofs.calls.agrees.Statement.{statement}
 use Rattle.chains.proofs.calls.agrees.Tie as tie
 
-start-of-requires : tie.Need-start-of-requires
-start-of-requires c κs = search needs
+whole-requires : tie.Need-whole-requires
+whole-requires c κs = search needs
 
 returns : tie.Need-returns
 returns c = search needs
@@ -68,7 +68,7 @@ pub agrees-spec : {M : Type 1} → statement M
 agrees-spec =
     tie.close
     (tie.spec
-    start-of-requires
+    whole-requires
     returns
     part-requires
     returns-2

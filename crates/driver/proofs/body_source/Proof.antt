@@ -1,0 +1,16 @@
+-- `driver::body_source` meets its contract.
+-- Assumes nothing.
+use mathlib.Core.Path.{sym}
+use Rattle.driver.proofs.SetupLaws.{source-other}
+use borrow.Author.Needs.{needs}
+use Rattle.driver.proofs.body_source.Statement.{statement}
+use Rattle.driver.proofs.body_source.Tie as tie
+
+returns : tie.Need-returns
+returns c = search needs
+
+returns-2 : tie.Need-returns-2
+returns-2 c = sym (source-other _ _ _ (c .if1 .left))
+
+pub body-source-spec : {M : Type 1} → statement M
+body-source-spec = tie.close (tie.spec returns returns-2)
