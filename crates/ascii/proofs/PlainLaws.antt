@@ -1,12 +1,13 @@
--- A text of digits alone is read to its end, and gives what its pairs stand for.
+-- A text of digits alone is read to its end, and gives what its pairs stand for; so does one that begins with digits, as far as they go.
 -- Assumes nothing.
-use mathlib.Core.Logic.{⊎-elim}
+use mathlib.Core.Logic.{_⊎_, ⊎-elim}
 use mathlib.Core.Path.{_≡_, refl, sym, ap, _∙_}
 use mathlib.Core.List.{List, [], _∷_}
-use Prim.Native.Nat.{ℕ, suc, _+_, _*_, _-_, _/_, _≤_, _<_}
+use Prim.Native.Nat.{ℕ, zero, suc, _+_, _*_, _-_, _/_, _≤_, _<_}
 use native.Mathlib.Omega.{arith}
+use native.Mathlib.Numerals.{add-one}
 use lib.Bits.{bitOr, or-add-and, and-le-l, and-le-r}
-use lib.ListN.{length, getD, take, drop, set, length-take, length-drop, drop-of-length-le}
+use lib.ListN.{length, getD, take, drop, set, length-set, length-take, length-drop, drop-of-length-le}
 use lib.Seq.{sets}
 use Rattle.modbus.specs.Step.{go, choose, _≤?_, _≟_}
 use Rattle.modbus.specs.Bytes.{All}
@@ -16,7 +17,7 @@ use Rattle.modbus.proofs.StepLaws.{follow, bound, pick-yes, pick-no, picked}
 use Rattle.modbus.proofs.HexLaws.{undigit-figure, undigit-letter, undigit-none}
 use Rattle.ascii.specs.Reading.{Ending, finished, refused, onward, StopByte, second, decode, parsed, parsedInto}
 use Rattle.ascii.specs.Plain.{Digit, value, values, begin, Plain}
-use Rattle.ascii.proofs.ReadingLaws.{pair-both, placed-go, decode-go, text-from}
+use Rattle.ascii.proofs.ReadingLaws.{pair-both, second-some, placed-go, decode-go, text-from, resumed, resumed-go}
 
 -- a digit is no stop byte
 undigit-goes : (c a : ℕ) → undigit c ≡ go a → ¬ StopByte c
@@ -144,3 +145,60 @@ others-step s e k o x P inv h j d q r =
 pub others-done : (s : List ℕ) (e k : ℕ) → e ≤ k → All Digit (drop k (take e s))
 others-done s e k h =
     let j : length (take e s) ≤ k = simp length-take (omega arith) in rw (drop-of-length-le (take e s) j) tt
+
+-- ---- a text that begins with pairs of digits
+
+-- the pairs from f to before k are decoded: however far the digits behind them go, both make the buffer that all of them make
+unfoldable pub Begun : List ℕ → ℕ → List ℕ → ℕ → ℕ → List ℕ → ℕ → Type 0
+Begun s f buf₀ at₀ k buf at =
+    (e : ℕ) → k ≤ e → e ≤ length s
+    → (All Digit (drop k (take e s)) → All Digit (drop f (take e s)))
+    × (sets buf at (values (drop k (take e s))) ≡ sets buf₀ at₀ (values (drop f (take e s))))
+
+pub begun-start : (s : List ℕ) (f : ℕ) (buf : List ℕ) (at : ℕ) → Begun s f buf at f buf at
+unfolding Begun
+begun-start s f buf at e h j = (λ d. d, refl)
+
+module _ (s : List ℕ) (f : ℕ) (buf₀ : List ℕ) (at₀ k : ℕ) (buf : List ℕ) (at : ℕ) (inv : Begun s f buf₀ at₀ k buf at) where
+  pub begun-on : (x y : ℕ) → Digit (getD s k 0) × (x ≡ value (getD s k 0)) → Digit (getD s (k + 1) 0) × (y ≡ value (getD s (k + 1) 0))
+      → Begun s f buf₀ at₀ (k + 2) (set buf at (x * 16 + y)) (suc at)
+  unfolding Begun
+  begun-on x y p q e h j =
+      let r = inv e (omega arith) j in (
+        λ d. r .0 (rw (from-two s e k (omega arith) j) (p .0, (q .0, d))),
+        values-step s e k buf at x y _ (r .1) (omega arith) j (p .1) (q .1),
+      )
+
+  pub begun-done : k ≤ length s → All Digit (drop f (take k s)) × (buf ≡ sets buf₀ at₀ (values (drop f (take k s))))
+  unfolding Begun
+  begun-done h =
+      let r = inv k (omega arith) h in
+      (r .0 (others-done s k k (omega arith)), values-done s k k buf at _ (r .1) (omega arith))
+
+-- what there is room for, where code has found that there is room for all r pairs or that there is none
+pub quick-room : (r end from room at d : ℕ) → (r ≡ 0) ⊎ ((from + 2 * r ≤ end) × (at + r ≤ 254) × (at + r ≤ room)) → d ≤ r
+    → (d ≤ (end - from) / 2) × (d ≤ 254 - at) × (d ≤ room - at)
+quick-room r end from room at d q h =
+    ⊎-elim
+    (λ (e : r ≡ 0). (omega arith, omega arith, omega arith))
+    (λ (p : (from + 2 * r ≤ end) × (at + r ≤ 254) × (at + r ≤ room)). (omega (arith, p), omega (arith, p), omega (arith, p)))
+    q
+
+-- a reading goes on behind m pairs of digits for which there is room
+module _ (s : List ℕ) (n : ℕ) (h : n ≤ length s) (end : Ending) (z : (ℕ × ℕ) × List ℕ) (e k′ at′ : ℕ) (after : List ℕ) where
+  pub resumed-digits : (m i k : ℕ) (buf : List ℕ) (at : ℕ) → resumed end k buf at (drop i (take n s)) ≡ z
+      → m ≤ (n - i) / 2 → m ≤ 254 - at → m ≤ length buf - at → e ≡ i + 2 * m → k′ ≡ k + m → at′ ≡ at + m
+      → All Digit (drop i (take e s)) → after ≡ sets buf at (values (drop i (take e s)))
+      → resumed end k′ after at′ (drop e (take n s)) ≡ z
+  resumed-digits zero i k buf at inv h₁ h₂ h₃ q₁ q₂ q₃ d g =
+      let a : e ≡ i = omega arith in
+      let b : k′ ≡ k = omega arith in
+      let c : at′ ≡ at = omega arith in
+      rw (a, b, c, ← values-done s e i buf at after (sym g) (omega arith)) inv
+  resumed-digits (suc m) i k buf at inv h₁ h₂ h₃ q₁ q₂ q₃ d g =
+      let (x, y, t) = digits-two s e i d (omega arith) (omega arith) in
+      let u = undigit-value (getD s i 0) x in
+      let p = pair-both _ _ (undigit-goes _ _ u) _ _ u (second-some s n (i + 1) (omega arith) h ∙ undigit-value (getD s (i + 1) 0) y) in
+      let r = resumed-go s n i end k buf at z inv _ (suc k) _ (omega arith) h (λ q. omega arith) p (omega arith) refl refl in
+      resumed-digits m (i + 2) (suc k) _ (at + 1) r (omega arith) (omega arith) (simp length-set (omega arith)) (omega arith) (omega arith)
+      (omega arith) t (sym (rw (add-one at) (values-step s e i buf at _ _ after (sym g) (omega arith) (omega arith) refl refl)))

@@ -16,6 +16,7 @@ use Rattle.modbus.specs.Frame.{line}
 use Rattle.modbus.specs.declared.ErrorKind.{ErrorKind}
 use Rattle.modbus.specs.declared.ErrorKind.the-variants.{OOB}
 use Rattle.modbus.proofs.StepLaws.{pass, fail, follow, halt, needed, bound, picked}
+use Rattle.modbus.proofs.BytesLaws.{sets-append}
 use Rattle.modbus.proofs.HexLaws.{length-text}
 use Rattle.ascii.specs.Reading.{Ending, finished, refused, Decoded, ends, onward, StopByte, stopByte?, orRefused, second, pair, placed, decode, parsed, counted, parsedInto, generatedInto}
 
@@ -201,14 +202,17 @@ pub sets-out : (vs l : List ℕ) (i : ℕ) → length l ≤ i → sets l i vs �
 sets-out [] l i h = refl
 sets-out (v ∷ vs) l i h = rw (set-out l i v h) (sets-out vs l (suc i) (omega arith))
 
--- what is left of a line when i bytes of the data are written
-abbrev pub rest : List ℕ → ℕ → List ℕ
-rest l i = text (drop i l) ++ (13 ∷ 10 ∷ [])
+-- what is left when i bytes of the data are written as text, with what comes behind the text
+abbrev pub rest : List ℕ → List ℕ → ℕ → List ℕ
+rest l end i = text (drop i l) ++ end
 
-module _ (l buf : List ℕ) (i at : ℕ) (z : List ℕ) (inv : sets buf at (rest l i) ≡ z) where
+abbrev pub crlf : List ℕ
+crlf = 13 ∷ 10 ∷ []
+
+module _ (l end buf : List ℕ) (i at : ℕ) (z : List ℕ) (inv : sets buf at (rest l end i) ≡ z) where
   -- one byte's two digits
   pub rest-step : (x y : ℕ) (after : List ℕ) → i < length l → x ≡ digit (getD l i 0 / 16) → y ≡ digit (getD l i 0 % 16)
-      → after ≡ sets buf at (x ∷ y ∷ []) → sets after (at + 2) (rest l (i + 1)) ≡ z
+      → after ≡ sets buf at (x ∷ y ∷ []) → sets after (at + 2) (rest l end (i + 1)) ≡ z
   unfolding text
   rest-step x y after h e f g =
       let k : at + 2 ≡ suc (suc at) = omega arith in
@@ -219,20 +223,30 @@ module _ (l buf : List ℕ) (i at : ℕ) (z : List ℕ) (inv : sets buf at (rest
       → after ≡ sets buf at (x ∷ y ∷ []) → length buf ≤ suc at → after ≡ z
   rest-cut x y after h e f g k =
       let n = length-kept buf after at (x ∷ y ∷ []) g in
-      sym (sets-out (rest l (i + 1)) after (at + 2) (omega arith)) ∙ rest-step x y after h e f g
+      sym (sets-out (rest l end (i + 1)) after (at + 2) (omega arith)) ∙ rest-step x y after h e f g
 
-  -- the end of the line
-  pub rest-done : (after : List ℕ) → length l ≤ i → after ≡ sets buf at (13 ∷ 10 ∷ []) → after ≡ z
+  -- the end of the text
+  pub rest-done : (after : List ℕ) → length l ≤ i → after ≡ sets buf at end → after ≡ z
   unfolding text
   rest-done after h g = g ∙ (rw (drop-of-length-le l h) at inv)
+
+-- a line whose colon and text are written
+module _ (l buf after : List ℕ) (e : after ≡ sets (set buf 0 58) 1 (text l)) where
+  pub text-kept : length after ≡ length buf
+  text-kept = length-kept (set buf 0 58) after 1 (text l) e ∙ length-set buf 0 58
+
+  pub text-ended : set (set after (2 * length l + 1) 13) (2 * length l + 2) 10 ≡ sets buf 0 (line l)
+  text-ended =
+      let k : 2 * length l + 2 ≡ suc (2 * length l + 1) = omega arith in
+      rw (k, e) (sym (sets-append (text l) crlf (set buf 0 58) 1 (2 * length l + 1) (omega (arith, length-text l))))
 
 pub length-line : (l : List ℕ) → length (line l) ≡ 2 * length l + 3
 length-line l = simp (length-append, length-text) (omega arith)
 
 -- where `first` has the colon, and all of the line behind it is written as far as there is room
-module _ (l buf first after : List ℕ) (e : first ≡ set buf 0 58) (f : after ≡ sets first 1 (rest l 0)) where
+module _ (l buf first after : List ℕ) (e : first ≡ set buf 0 58) (f : after ≡ sets first 1 (rest l crlf 0)) where
   line-left : after ≡ sets buf 0 (line l)
-  line-left = f ∙ ap (λ (b : List ℕ). sets b 1 (rest l 0)) e
+  line-left = f ∙ ap (λ (b : List ℕ). sets b 1 (rest l crlf 0)) e
 
   room-left : length first ≡ length buf
   room-left = length-kept buf first 0 (58 ∷ []) e
@@ -252,4 +266,4 @@ pub line-none : (l buf first : List ℕ) → first ≡ set buf 0 58 → length b
     → _≡_ {A = (ℕ × ℕ) × List ℕ} ((21, 0), first) (generatedInto l buf)
 line-none l buf first e h =
     let n = length-kept buf first 0 (58 ∷ []) e in
-    line-refused l buf first first e (sym (sets-out (rest l 0) first 1 (omega arith))) (omega (arith, length-line l))
+    line-refused l buf first first e (sym (sets-out (rest l crlf 0) first 1 (omega arith))) (omega (arith, length-line l))

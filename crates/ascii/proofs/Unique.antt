@@ -1,11 +1,13 @@
 -- Each contract leaves one possible result, and one possible content of every lent buffer.
 -- Assumes nothing.
-use mathlib.Core.Path.{sym, ap, _∙_}
+use mathlib.Core.Path.{refl, sym, ap, _∙_}
 use mathlib.Core.List.{List}
 use Prim.Native.Nat.{ℕ}
 use Rattle.modbus.proofs.Unique.{Unique, byte-paper, size-paper}
 use Rattle.ascii.proofs.parse_ascii_frame.Kinds as parse-ascii-frame-kinds
 use Rattle.ascii.proofs.parse_ascii_frame.Reads as parse-ascii-frame-reads
+use Rattle.ascii.proofs.put_text.Kinds as put-text-kinds
+use Rattle.ascii.proofs.put_text.Reads as put-text-reads
 use Rattle.ascii.proofs.generate_ascii_frame.Kinds as generate-ascii-frame-kinds
 use Rattle.ascii.proofs.generate_ascii_frame.Reads as generate-ascii-frame-reads
 
@@ -18,3 +20,7 @@ pub generate-ascii-frame : Unique 2 generate-ascii-frame-kinds.ps generate-ascii
 generate-ascii-frame κs a x y u v p q =
     let e = p ∙ sym q in
     (size-paper x y (ap (λ (t : (ℕ × ℕ) × List ℕ). t .0) e), ap (λ (t : (ℕ × ℕ) × List ℕ). (u .0, (t .1, u .1 .1))) e)
+
+-- the buffer is the first of the parameters
+pub put-text : Unique 2 put-text-kinds.ps put-text-kinds.r put-text-reads.Post
+put-text κs a x y u v p q = (refl, ap (λ (b : List ℕ). (b, u .1)) (p ∙ sym q))

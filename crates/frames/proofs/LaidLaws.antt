@@ -2,29 +2,21 @@
 -- Assumes nothing.
 use mathlib.Core.Path.{_≡_, refl, sym, ap, ap₂, _∙_}
 use mathlib.Core.List.{List, [], _∷_, _++_}
-use Prim.Native.Nat.{ℕ, suc, _+_, _/_, _%_, _<_, _≤_}
+use Prim.Native.Nat.{ℕ, suc, _+_, _*_, _/_, _%_, _<_, _≤_}
 use native.Mathlib.Omega.{arith}
 use native.Mathlib.Numerals.{add-one}
-use lib.ListN.{length, take, getD, set, length-take}
-use lib.Seq.{sets, take-suc, take-suc-set, length-take-le}
-use Rattle.modbus.specs.Step.{stop, go}
-use Rattle.modbus.specs.Paper.{told, sizePaper}
+use lib.ListN.{length, take, getD, set, length-set, length-take, length-append}
+use lib.Seq.{sets, length-sets, take-suc, length-take-le}
 use Rattle.modbus.specs.Check.{crc, lrc}
-use Rattle.modbus.specs.Frame.{line, wrap, tagLength, around}
-use Rattle.modbus.specs.declared.ErrorKind.{ErrorKind}
-use Rattle.modbus.specs.declared.SizeAnswer.{SizeAnswer}
-use Rattle.modbus.specs.declared.SizeAnswer.the-variants as size
+use Rattle.modbus.specs.Hex.{text}
+use Rattle.modbus.specs.Frame.{wrap, tagLength, around}
 use Rattle.modbus.specs.declared.ModbusProto.{ModbusProto}
 use Rattle.modbus.specs.declared.ModbusProto.the-variants.{Rtu, Ascii, TcpUdp}
-use Rattle.modbus.proofs.StepLaws.{pass, pick-yes, pick-no}
-use Rattle.modbus.proofs.PaperLaws.{told-same}
+use Rattle.modbus.proofs.StepLaws.{pick-yes, pick-no}
+use Rattle.modbus.proofs.BytesLaws.{sets-append}
+use Rattle.modbus.proofs.HexLaws.{length-text, text-append}
 use Rattle.modbus.proofs.FrameLaws.{length-wrap}
-use Rattle.ascii.specs.Reading.{generatedInto}
 use Rattle.frames.specs.Opened.{laid}
-
-pub sets-append : (l m buf : List ℕ) (i j : ℕ) → i + length l ≡ j → sets buf i (l ++ m) ≡ sets (sets buf i l) j m
-sets-append [] m buf i j e = let k : i ≡ j = omega arith in rw k
-sets-append (x ∷ l) m buf i j e = sets-append l m (set buf i x) (suc i) j (omega arith)
 
 -- one byte more of those to be laid
 pub sets-more : (buf src : List ℕ) (at i : ℕ) → i < length src
@@ -67,25 +59,27 @@ tcp-laid high low reply body after n h k j e =
     laid-all reply (wrap TcpUdp (high ∷ low ∷ []) (take n body)) (n + 6) _ (sym (length-around TcpUdp (high ∷ low ∷ []) body n refl h)) j
     (rw (hi, lo) e)
 
--- the LRC behind the body, as a line
-pub ascii-bytes : (body : List ℕ) (n v : ℕ) → n < length body → v ≡ lrc (take n body)
-    → line (take (n + 1) (set body n v)) ≡ wrap Ascii [] (take n body)
-ascii-bytes body n v h e = ap line (rw (add-one, take-suc-set body n v h, e))
+-- the text of the body and that of its LRC, between the colon and the end of the line
+module _ (reply body first : List ℕ) (n : ℕ) (e : first ≡ sets (set reply 0 58) 1 (text (take n body))) where
+  pub body-kept : length first ≡ length reply
+  body-kept = ap length e ∙ length-sets (set reply 0 58) 1 (text (take n body)) ∙ length-set reply 0 58
 
--- r was answered for a line that there is room for
-module _ (l buf after : List ℕ) (r : SizeAnswer) (fits : length (line l) ≤ length buf)
-    (e : _≡_ {A = (ℕ × ℕ) × List ℕ} (sizePaper r, after) (generatedInto l buf)) where
-  paper : sizePaper r ≡ told (go (length (line l)))
-  paper = ap (λ (p : (ℕ × ℕ) × List ℕ). p .0) e ∙ ap told (pass _ _ _ fits)
+  module _ (after : List ℕ) (x : ℕ) (f : after ≡ sets first (2 * n + 1) (text (x ∷ []))) where
+    pub check-kept : length after ≡ length reply
+    check-kept = ap length f ∙ length-sets first (2 * n + 1) (text (x ∷ [])) ∙ body-kept
 
-  pub line-laid : (n : ℕ) → r ≡ size.Value n → _≡_ {A = ℕ × List ℕ} (n, after) (laid buf (line l))
-  line-laid n q =
-      let p = told-same (go n) (go (length (line l))) (sym (ap sizePaper q) ∙ paper) in
-      let m : n ≡ length (line l) = cc in
-      laid-all buf (line l) n after m (omega arith) (ap (λ (p : (ℕ × ℕ) × List ℕ). p .1) e)
-
-  pub line-never : (k : ErrorKind) → r ≡ size.Refused k → ⊥
-  line-never k q =
-      let p = told-same (stop k) (go (length (line l))) (sym (ap sizePaper q) ∙ paper) in
-      let z : _≡_ {A = ℕ} 0 1 = cc in
-      omega arith
+    pub ascii-laid : n ≤ length body → 2 * n + 5 ≤ length reply → x ≡ lrc (take n body)
+        → _≡_ {A = ℕ × List ℕ} (2 * n + 5, set (set after (2 * n + 3) 13) (2 * n + 4) 10) (laid reply (wrap Ascii [] (take n body)))
+    ascii-laid h k q =
+        let b = take n body in
+        let r = set reply 0 58 in
+        let m = length-take-le n body h in
+        let i : 1 + length (text b) ≡ 2 * n + 1 = omega (arith, length-text b) in
+        let j : 1 + length (text b ++ text (x ∷ [])) ≡ 2 * n + 3 = simp (length-append, length-text) (omega arith) in
+        let s : 2 * n + 4 ≡ suc (2 * n + 3) = omega arith in
+        laid-all reply (wrap Ascii [] b) (2 * n + 5) _ (sym (length-around Ascii [] body n refl h)) k
+        (rw (s, f, e)
+        (sym (ap (λ (v : ℕ). sets r 1 (text (b ++ (v ∷ [])) ++ (13 ∷ 10 ∷ []))) (sym q)
+        ∙ ap (λ (l : List ℕ). sets r 1 (l ++ (13 ∷ 10 ∷ []))) (text-append b (x ∷ []))
+        ∙ sets-append (text b ++ text (x ∷ [])) (13 ∷ 10 ∷ []) r 1 (2 * n + 3) j
+        ∙ ap (λ (l : List ℕ). sets l (2 * n + 3) (13 ∷ 10 ∷ [])) (sets-append (text b) (text (x ∷ [])) r 1 (2 * n + 1) i))))

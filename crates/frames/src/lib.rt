@@ -1,10 +1,9 @@
 // Frames taken apart and put together: from a frame to the body that it holds, and from a body to the frame around it.
-use ascii::generate_ascii_frame;
 use ascii::parse_ascii_frame;
+use ascii::put_text;
 use checks::calc_crc16;
 use checks::calc_lrc;
 use modbus::ByteAnswer;
-use modbus::SizeAnswer;
 use octets::word;
 ghost use mathlib.Core.Path.{_≡_};
 ghost use mathlib.Core.Bool.{true, false};
@@ -13,7 +12,7 @@ ghost use Prim.Native.Nat.{_+_, _*_, _≤_};
 ghost use lib.ListN.{length, take};
 ghost use lib.Seq.{sets};
 ghost use Rattle.modbus.specs.Step.{choose};
-ghost use Rattle.modbus.specs.Frame.{line, wrap};
+ghost use Rattle.modbus.specs.Frame.{wrap};
 ghost use Rattle.modbus.specs.Decode.{unwrap};
 ghost use Rattle.modbus.specs.declared.ModbusProto.the-variants.{Rtu, Ascii, TcpUdp};
 ghost use Rattle.frames.specs.Opened.{opened, lined?, openedText, laid};
@@ -138,17 +137,6 @@ fn lay(dst: &mut [u8], at: usize, src: &[u8], n: usize)
     }
 }
 
-// Writes the first n bytes as a line to the front of the reply, which has room for it.
-fn lay_line(bytes: &[u8], n: usize, reply: &mut [u8]) -> usize
-    requires { ⌜ (n ≤ length (now bytes)) × (2 * n + 3 ≤ length (now reply)) ⌝ }
-    ensures { λ r. ⌜ (r, now (reply .exit)) ≡ laid (now (reply .entry)) (line (take n (now (bytes .entry)))) ⌝ }
-{
-    match generate_ascii_frame(&bytes[..n], reply) {
-        SizeAnswer::Refused(_) => 0,
-        SizeAnswer::Value(m) => m,
-    }
-}
-
 // The frame around the first n bytes of `body` goes to the front of the reply, if it fits; its length, or 0.
 pub fn seal_rtu(body: &[u8; 256], n: u8, reply: &mut [u8]) -> usize
     ensures { λ r. ⌜ (r, now (reply .exit)) ≡ laid (now (reply .entry)) (wrap Rtu [] (take n (now (body .entry)))) ⌝ }
@@ -176,9 +164,12 @@ pub fn seal_ascii(body: &[u8; 256], n: u8, reply: &mut [u8]) -> usize
     match calc_lrc(bytes, n) {
         ByteAnswer::Refused(_) => 0,
         ByteAnswer::Value(lrc) => {
-            let mut whole = *body;
-            whole[m] = lrc;
-            lay_line(&whole, m + 1, reply)
+            reply[0] = 58;
+            put_text(reply, 1, &bytes[..m]);
+            put_text(reply, 2 * m + 1, &[lrc]);
+            reply[2 * m + 3] = 13;
+            reply[2 * m + 4] = 10;
+            2 * m + 5
         }
     }
 }

@@ -1,9 +1,11 @@
--- What holds of every element holds of the elements of parts; 16-bit numbers in two bytes.
+-- What holds of every element holds of the elements of parts; bytes laid in two parts; 16-bit numbers in two bytes.
 -- Assumes nothing.
+use mathlib.Core.Path.{_≡_}
 use mathlib.Core.List.{List, [], _∷_, _++_}
-use Prim.Native.Nat.{ℕ, zero, suc, _<_, suc-le-suc}
+use Prim.Native.Nat.{ℕ, zero, suc, _+_, _<_, suc-le-suc}
 use native.Mathlib.Omega.{arith}
 use lib.ListN.{length, take, drop, getD, set}
+use lib.Seq.{sets}
 use Rattle.modbus.specs.Bytes.{All, Bytes, two, wordAt}
 
 module _ (P : ℕ → Type 0) where
@@ -57,3 +59,8 @@ word-at l i y = omega (arith, byte-at l i y, byte-at l (suc i) y)
 
 pub bytes-two : (n : ℕ) → n < 65536 → Bytes (two n)
 bytes-two n h = (omega arith, (omega arith, tt))
+
+-- bytes laid over a buffer from i on: the first part, and the second from where the first ends
+pub sets-append : (l m buf : List ℕ) (i j : ℕ) → i + length l ≡ j → sets buf i (l ++ m) ≡ sets (sets buf i l) j m
+sets-append [] m buf i j e = let k : i ≡ j = omega arith in rw k
+sets-append (x ∷ l) m buf i j e = sets-append l m (set buf i x) (suc i) j (omega arith)

@@ -1,7 +1,7 @@
 -- Hexadecimal digits both ways, and text.
 -- Assumes nothing.
 use mathlib.Core.Path.{_≡_, refl, ap, _∙_, subst}
-use mathlib.Core.List.{List, [], _∷_}
+use mathlib.Core.List.{List, [], _∷_, _++_}
 use Prim.Native.Nat.{ℕ, _+_, _-_, _*_, _/_, _%_, _≤_, _<_}
 use native.Mathlib.Omega.{arith}
 use native.Mathlib.Nat.{div-add-mod'}
@@ -77,6 +77,11 @@ pub length-text : (l : List ℕ) → length (text l) ≡ 2 * length l
 unfolding text
 length-text [] = refl
 length-text (b ∷ l) = let i = length-text l in omega arith
+
+pub text-append : (l m : List ℕ) → text (l ++ m) ≡ text l ++ text m
+unfolding text
+text-append [] m = refl
+text-append (b ∷ l) m = rw (text-append l m)
 
 digit-lt : (n : ℕ) → n < 16 → digit n < 256
 digit-lt n h = by (n ≤? 9)

@@ -5,7 +5,7 @@ use mathlib.Core.List.{List, [], _∷_, _++_, append-nil, append-assoc}
 use Prim.Native.Nat.{ℕ, zero, suc, _+_, _-_, _*_, _/_, _%_, _^_, _≤_, _<_}
 use native.Mathlib.Omega.{arith}
 use native.Mathlib.Decide.{ℕ-discrete, decLt, decLe}
-use native.Mathlib.Nat.{add-zero, zero-add, add-assoc, add-suc, suc-add, mod-lt, not-suc-le-zero, pow-suc}
+use native.Mathlib.Nat.{zero-add, add-assoc, mod-lt, not-suc-le-zero, pow-suc}
 use lib.ListN.{length, getD, set, replicate, length-set, length-append, length-replicate}
 use lib.Seq.{getD-set-same, getD-set-other, ext-getD, sets}
 use lib.Bits.{bitAnd, bitOr}
@@ -14,7 +14,7 @@ use Rattle.modbus.specs.Bytes.{All, Bytes, pack}
 use Rattle.modbus.specs.Table.{bit, part}
 use Rattle.modbus.specs.Request.{shown}
 use Rattle.modbus.specs.Storage.{coilAt, packed, store}
-use Rattle.modbus.proofs.BytesLaws.{byte-at, bytes-set}
+use Rattle.modbus.proofs.BytesLaws.{byte-at, bytes-set, sets-append}
 use Rattle.modbus.proofs.CargoLaws.{length-packed}
 use Rattle.modbus.proofs.BitLaws.{bitAt, bits-determine, bit-half, bit-shr, bit-mod, bit-below, bit-above, low-masked, merged, merged-shl, merged-byte, merged-in, merged-out}
 use Rattle.modbus.proofs.StorageLaws.{length-part, getD-part, part-add, part-all, coil-bit, packed-law, store-append, store-length, store-in, store-out, store-bytes, coils-determine}
@@ -154,10 +154,6 @@ pack-none : pack [] ≡ []
 unfolding pack
 pack-none = refl
 
-sets-append : (l : List ℕ) (i : ℕ) (vs ws : List ℕ) → sets l i (vs ++ ws) ≡ sets (sets l i vs) (i + length vs) ws
-sets-append l i [] ws = rw add-zero
-sets-append l i (v ∷ vs) ws = rw (add-suc, ← suc-add) (sets-append (set l i v) (suc i) vs ws)
-
 module _ (f : ℕ → ℕ) where
   pack-eight : (s : ℕ) (r : List ℕ) → pack (part f s 8 ++ r) ≡ binary (part f s 8) ∷ pack r
   unfolding pack part binary
@@ -261,6 +257,11 @@ module _ (f : ℕ → ℕ) (s : ℕ) where
         binary-pad,
       )
 
+  -- one cell alone
+  pub show-one : (l : List ℕ) (at n x : ℕ) → n ≡ 1 → x ≡ binary (part f s 1) → set l at x ≡ sets l at (shown bit (part f s n))
+  unfolding pack part binary
+  show-one l at n x e q = let k : x ≡ f s + 2 * 0 = q in rw e (ap (set l at) (omega arith))
+
   module _ (l m : List ℕ) (at n : ℕ) (whole : m ≡ sets l at (pack (part f s (8 * (n / 8))))) where
     pub show-whole : n % 8 ≤ 0 → m ≡ sets l at (shown bit (part f s n))
     show-whole h =
@@ -276,7 +277,7 @@ module _ (f : ℕ → ℕ) (s : ℕ) where
         let r : shown bit (part f s n) ≡ pack vs ++ (x ∷ []) =
         ap (λ (j : ℕ). shown bit (part f s j)) (sym k) ∙ shown-rest (n / 8) (n % 8) h (omega arith)
         ∙ ap (λ (j : ℕ). pack vs ++ (j ∷ [])) (sym e) in
-        rw whole (sym (ap (sets l at) r ∙ sets-append l at (pack vs) (x ∷ [])
+        rw whole (sym (ap (sets l at) r ∙ sets-append (pack vs) (x ∷ []) l at _ refl
         ∙ ap (λ (j : ℕ). set (sets l at (pack vs)) (at + j) x) c))
 
 -- ---- a run of any length: to the end of a byte, whole bytes, and what is left

@@ -112,11 +112,15 @@ fn put_run(dst: &mut [u8], at: usize, src: &[u8], from: usize, n: usize)
     dst[at / 8] = (dst[at / 8] & !mask) | bits;
 }
 
-// The bytes of dst from `at` on show n cells of src from `from` on, pad bits zero.
+// The bytes of dst from `at` on show n cells of src from `from` on, pad bits zero. One cell alone is asked for often, and costs less so.
 fn show(dst: &mut [u8], at: usize, src: &[u8], from: usize, n: usize)
     requires { ⌜ (at + (n + 7) / 8 ≤ length (now dst)) × (from + n ≤ 8 * length (now src)) × (from + n ≤ 65536) ⌝ }
     ensures { λ _. ⌜ now (dst .exit) ≡ sets (now (dst .entry)) at (shown bit (part (coilAt (now (src .entry))) from n)) ⌝ }
 {
+    if n == 1 {
+        dst[at] = run_at(src, from, 1);
+        return;
+    }
     let whole = n / 8;
     copy_whole(dst, at, src, from, whole);
     if n % 8 > 0 {
@@ -132,11 +136,23 @@ fn head_of(at: usize, n: usize) -> usize
     if n < left { n } else { left }
 }
 
+// Cell `at` of dst becomes the first of src.
+fn put_one(dst: &mut [u8], at: usize, src: &[u8])
+    requires { ⌜ (at < 8 * length (now dst)) × (0 < length (now src)) ⌝ }
+    ensures { λ _. ⌜ now (dst .exit) ≡ store packed (now (dst .entry)) at (part (coilAt (now (src .entry))) 0 1) ⌝ }
+{
+    dst[at / 8] = with_bit(dst[at / 8], (at % 8) as u8, bit_of(src[0], 0));
+}
+
 // n cells of dst from `at` on become the first n of src: up to the end of a byte, whole bytes, and what is left.
 fn put_all(dst: &mut [u8], at: usize, src: &[u8], n: usize)
     requires { ⌜ (at + n ≤ 8 * length (now dst)) × (n ≤ 8 * length (now src)) × (at + n ≤ 65536) ⌝ }
     ensures { λ _. ⌜ now (dst .exit) ≡ store packed (now (dst .entry)) at (part (coilAt (now (src .entry))) 0 n) ⌝ }
 {
+    if n == 1 {
+        put_one(dst, at, src);
+        return;
+    }
     let head = head_of(at, n);
     let whole = (n - head) / 8;
     let done = head + 8 * whole;

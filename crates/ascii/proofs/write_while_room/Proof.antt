@@ -10,7 +10,7 @@ use lib.ListN.{length, getD}
 use lib.Seq.{sets}
 use Rattle.modbus.specs.Hex.{digit}
 use Rattle.octets.proofs.PutLaws.{no-room, had-room}
-use Rattle.ascii.proofs.ReadingLaws.{length-kept, rest, rest-step, rest-cut, rest-done, length-line, line-none, line-refused, line-written}
+use Rattle.ascii.proofs.ReadingLaws.{length-kept, rest, crlf, rest-step, rest-cut, rest-done, length-line, line-none, line-refused, line-written}
 use Rattle.ascii.proofs.write_while_room.Statement.{statement}
 use Rattle.ascii.proofs.write_while_room.Tie as tie
 
@@ -19,7 +19,7 @@ Inv-loop «data» result₀ at₀ i₀ i-end result at i =
     (at ≡ 1 + 2 * i)
     × (i ≤ length «data»)
     × (length result ≡ length result₀)
-    × (sets result at (rest «data» i) ≡ sets result₀ 1 (rest «data» 0))
+    × (sets result at (rest «data» crlf i) ≡ sets result₀ 1 (rest «data» crlf 0))
 
 abbrev μ-loop : tie.MeasureT-loop
 μ-loop «data» result₀ at₀ i₀ i-end result at i = i-end - i
@@ -67,7 +67,7 @@ returns-2 c =
     let f = no-room _ _ _ (suc (l .loop .at)) (length (l .loop .result)) (w .put-two .ensures) (c .if2 .taken) in
     let e = had-room _ _ _ 0 (length (a .result .now)) (p .put-byte .ensures) (l .before .if1 .left) in
     line-refused (a .«data» .now) (a .result .now) _ _ (e .1)
-    (rest-cut (a .«data» .now) _ (l .loop .i) _ _ (l .loop .inv .3) _ _ _ (omega arith) (w .before .before .character .ensures)
+    (rest-cut (a .«data» .now) crlf _ (l .loop .i) _ _ (l .loop .inv .3) _ _ _ (omega arith) (w .before .before .character .ensures)
     (w .before .character2 .ensures ∙ ap digit (and-mask _ 4)) (f .1) (f .0))
     (omega (arith, length-line (a .«data» .now)))
 
@@ -94,7 +94,7 @@ loop-again c =
       omega arith,
       length-kept (l .loop .result) _ (l .loop .at) (w .before .before .character .result ∷ w .before .character2 .result ∷ []) (h .1)
           ∙ l .loop .inv .2,
-      rest-step (a .«data» .now) _ (l .loop .i) _ _ (l .loop .inv .3) _ _ _ (omega arith) (w .before .before .character .ensures)
+      rest-step (a .«data» .now) crlf _ (l .loop .i) _ _ (l .loop .inv .3) _ _ _ (omega arith) (w .before .before .character .ensures)
           (w .before .character2 .ensures ∙ ap digit (and-mask _ 4)) (h .1),
     )
 
@@ -113,7 +113,7 @@ returns-3 c =
     let f = no-room _ _ _ (suc (l .loop .at)) (length (l .loop .result)) (w .put-two2 .ensures) (c .if3 .taken) in
     let e = had-room _ _ _ 0 (length (a .result .now)) (p .put-byte .ensures) (l .before .if1 .left) in
     line-refused (a .«data» .now) (a .result .now) _ _ (e .1)
-    (rest-done (a .«data» .now) _ (l .loop .i) _ _ (l .loop .inv .3) _ (omega arith) (f .1))
+    (rest-done (a .«data» .now) crlf _ (l .loop .i) _ _ (l .loop .inv .3) _ (omega arith) (f .1))
     (omega (arith, length-line (a .«data» .now)))
 
 add-t25 : tie.Need-add-t25 Inv-loop μ-loop
@@ -135,7 +135,7 @@ returns-4 c =
     let h = had-room _ _ _ (suc (l .loop .at)) (length (l .loop .result)) (w .put-two2 .ensures) (c .if3 .left) in
     let e = had-room _ _ _ 0 (length (a .result .now)) (p .put-byte .ensures) (l .before .if1 .left) in
     line-written (a .«data» .now) (a .result .now) _ _ (e .1)
-    (rest-done (a .«data» .now) _ (l .loop .i) _ _ (l .loop .inv .3) _ (omega arith) (h .1)) _
+    (rest-done (a .«data» .now) crlf _ (l .loop .i) _ _ (l .loop .inv .3) _ (omega arith) (h .1)) _
     (omega (arith, length-line (a .«data» .now))) (omega arith)
 
 pub write-while-room-spec : {M : Type 1} → statement M

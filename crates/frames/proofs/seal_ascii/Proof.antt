@@ -1,15 +1,15 @@
--- `frames::seal_ascii` meets its contract: the LRC goes behind the body, and the line of both is written.
+-- `frames::seal_ascii` meets its contract: the text of the body and that of its LRC stand between the colon and the end of the line.
 -- Assumes nothing.
-use mathlib.Core.Path.{refl, ap, _∙_}
+use mathlib.Core.Path.{refl, sym}
 use mathlib.Core.List.{[]}
 use native.Mathlib.Omega.{arith}
 use borrow.Author.Needs.{needs}
 use lib.ListN.{take, length-set}
+use lib.Seq.{length-take-le}
 use Rattle.modbus.specs.Frame.{wrap}
 use Rattle.modbus.specs.declared.ModbusProto.the-variants.{Ascii}
 use Rattle.checks.proofs.WithinLaws.{lrc-value, lrc-never}
-use Rattle.frames.specs.Opened.{laid}
-use Rattle.frames.proofs.LaidLaws.{laid-none, length-around, ascii-bytes}
+use Rattle.frames.proofs.LaidLaws.{laid-none, length-around, body-kept, check-kept, ascii-laid}
 use Rattle.frames.proofs.seal_ascii.Statement.{statement}
 use Rattle.frames.proofs.seal_ascii.Tie as tie
 
@@ -34,17 +34,67 @@ enum-told c = search needs
 enum-known-lrc : tie.Need-enum-known-lrc
 enum-known-lrc c = search needs
 
-array-write-whole : tie.Need-array-write-whole
-array-write-whole c = search needs
+slice-write-reply : tie.Need-slice-write-reply
+slice-write-reply c = search needs
 
-slice-aggregate-lay-line : tie.Need-slice-aggregate-lay-line
-slice-aggregate-lay-line c = search needs
+slice-aggregate-put-text : tie.Need-slice-aggregate-put-text
+slice-aggregate-put-text c =
+    let a = c .before .before .before .before .before .before .before .before .before .args in
+    sym (length-take-le (a .n) (a .body .now) (omega arith))
 
-add-lay-line : tie.Need-add-lay-line
-add-lay-line c = search needs
+put-text-requires : tie.Need-put-text-requires
+put-text-requires c κs =
+    let a = c .before .before .before .before .before .before .before .before .before .args in
+    simp length-set (omega (arith, length-take-le (a .n) (a .body .now) (omega arith)))
 
-lay-line-requires : tie.Need-lay-line-requires
-lay-line-requires c κs = (simp length-set (omega arith), omega arith)
+mul-put-text : tie.Need-mul-put-text
+mul-put-text c = search needs
+
+add-put-text : tie.Need-add-put-text
+add-put-text c = search needs
+
+slice-aggregate-put-text-2 : tie.Need-slice-aggregate-put-text-2
+slice-aggregate-put-text-2 c = search needs
+
+put-text-requires-2 : tie.Need-put-text-requires-2
+put-text-requires-2 c κs =
+    let q = c .before .before .before .before in
+    let a = q .before .before .before .before .before .before .before .before .before .before .args in
+    omega (arith, body-kept (a .reply .now) (a .body .now) _ (a .n) (q .put-text .ensures))
+
+mul-reply : tie.Need-mul-reply
+mul-reply c = search needs
+
+add-reply : tie.Need-add-reply
+add-reply c = search needs
+
+slice-write-reply-2 : tie.Need-slice-write-reply-2
+slice-write-reply-2 c =
+    let p = c .before .before in
+    let q = p .before .before .before .before .before in
+    let m = q .before .before .before .before .before .before in
+    let a = m .before .before .before .before .args in
+    omega (arith, check-kept (a .reply .now) (a .body .now) _ (a .n) (q .put-text .ensures) _ _ (p .put-text2 .ensures))
+
+mul-reply-2 : tie.Need-mul-reply-2
+mul-reply-2 c = search needs
+
+add-reply-2 : tie.Need-add-reply-2
+add-reply-2 c = search needs
+
+slice-write-reply-3 : tie.Need-slice-write-reply-3
+slice-write-reply-3 c =
+    let p = c .before .before in
+    let q = p .before .before .before .before .before in
+    let m = q .before .before .before .before .before .before in
+    let a = m .before .before .before .before .args in
+    simp length-set (omega (arith, check-kept (a .reply .now) (a .body .now) _ (a .n) (q .put-text .ensures) _ _ (p .put-text2 .ensures)))
+
+mul-result : tie.Need-mul-result
+mul-result c = search needs
+
+add-result : tie.Need-add-result
+add-result c = search needs
 
 returns-2 : tie.Need-returns-2
 returns-2 c =
@@ -53,15 +103,21 @@ returns-2 c =
     absurd (lrc-never _ (a .body .now) (a .n) (omega arith) (m .calc-lrc .ensures) _ (c .enum-told .given .1))
 
 same-length : tie.Need-same-length
-same-length c = search needs
+same-length c =
+    let p = c .before .before in
+    let q = p .before .before .before .before .before in
+    let m = q .before .before .before .before .before .before in
+    let a = m .before .before .before .before .args in
+    simp length-set (check-kept (a .reply .now) (a .body .now) _ (a .n) (q .put-text .ensures) _ _ (p .put-text2 .ensures))
 
 returns-3 : tie.Need-returns-3
 returns-3 c =
-    let l = c .before .before in
-    let m = l .before .before .before .before .before .before .before in
+    let p = c .before .before in
+    let q = p .before .before .before .before .before in
+    let m = q .before .before .before .before .before .before in
     let a = m .before .before .before .before .args in
-    let e = lrc-value _ (a .body .now) (a .n) (omega arith) (m .calc-lrc .ensures) _ (l .before .before .before .before .before .lrc .given .1) in
-    l .lay-line .ensures ∙ ap (laid (a .reply .now)) (ascii-bytes (a .body .now) (a .n) _ (omega arith) e)
+    let e = lrc-value _ (a .body .now) (a .n) (omega arith) (m .calc-lrc .ensures) _ (q .before .before .before .before .lrc .given .1) in
+    ascii-laid (a .reply .now) (a .body .now) _ (a .n) (q .put-text .ensures) _ _ (p .put-text2 .ensures) (omega arith) (omega arith) e
 
 pub seal-ascii-spec : {M : Type 1} → statement M
 seal-ascii-spec =
@@ -73,10 +129,21 @@ seal-ascii-spec =
     calc-lrc-requires
     enum-told
     enum-known-lrc
-    array-write-whole
-    slice-aggregate-lay-line
-    add-lay-line
-    lay-line-requires
+    slice-write-reply
+    slice-aggregate-put-text
+    put-text-requires
+    mul-put-text
+    add-put-text
+    slice-aggregate-put-text-2
+    put-text-requires-2
+    mul-reply
+    add-reply
+    slice-write-reply-2
+    mul-reply-2
+    add-reply-2
+    slice-write-reply-3
+    mul-result
+    add-result
     returns-2
     same-length
     returns-3)

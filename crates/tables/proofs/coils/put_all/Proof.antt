@@ -1,57 +1,72 @@
--- `tables::coils::put_all` meets its contract: the three parts of the run are stored one after the other.
+-- `tables::coils::put_all` meets its contract: one cell alone; or the three parts of the run, stored one after the other.
 -- Assumes nothing.
-use Prim.Native.Nat.{_-_, _/_}
+use mathlib.Core.Path.{sym, ap, _∙_}
+use Prim.Native.Nat.{ℕ, _-_, _/_}
 use native.Mathlib.Omega.{arith}
 use borrow.Author.Needs.{needs}
-use Rattle.modbus.specs.Storage.{coilAt}
+use Rattle.modbus.specs.Table.{part}
+use Rattle.modbus.specs.Storage.{coilAt, packed, store}
 use Rattle.modbus.proofs.BytesLaws.{bytes-by}
 use Rattle.modbus.proofs.StorageLaws.{coil-bit}
 use Rattle.tables.proofs.RunsLaws.{store-three}
 use Rattle.tables.proofs.coils.put_all.Statement.{statement}
 use Rattle.tables.proofs.coils.put_all.Tie as tie
 
-head-of-requires : tie.Need-head-of-requires
-head-of-requires c κs = search needs
-
-sub-whole : tie.Need-sub-whole
-sub-whole c = omega arith
-
-mul-done : tie.Need-mul-done
-mul-done c = omega arith
-
-add-done : tie.Need-add-done
-add-done c = omega arith
-
-put-run-requires : tie.Need-put-run-requires
-put-run-requires c κs = omega arith
-
-add-copy-whole : tie.Need-add-copy-whole
-add-copy-whole c = omega arith
-
-copy-whole-requires : tie.Need-copy-whole-requires
-copy-whole-requires c κs = omega arith
-
-add-put-run : tie.Need-add-put-run
-add-put-run c = omega arith
-
-sub-put-run : tie.Need-sub-put-run
-sub-put-run c = omega arith
-
-put-run-requires-2 : tie.Need-put-run-requires-2
-put-run-requires-2 c κs = omega arith
+put-one-requires : tie.Need-put-one-requires
+put-one-requires c κs = search needs
 
 same-length : tie.Need-same-length
 same-length c = search needs
 
 returns : tie.Need-returns
 returns c =
+    let p = c .before .before in
+    let i = p .before .before in
+    let a = i .before .before .before .args in
+    p .put-one .ensures ∙ sym (ap (λ (n : ℕ). store packed (a .dst .now) (a .at) (part (coilAt (a .src .now)) 0 n)) (i .if1 .taken))
+
+head-of-requires : tie.Need-head-of-requires
+head-of-requires c κs = search needs
+
+sub-whole : tie.Need-sub-whole
+sub-whole c = search needs
+
+mul-done : tie.Need-mul-done
+mul-done c = search needs
+
+add-done : tie.Need-add-done
+add-done c = search needs
+
+put-run-requires : tie.Need-put-run-requires
+put-run-requires c κs = search needs
+
+add-copy-whole : tie.Need-add-copy-whole
+add-copy-whole c = search needs
+
+copy-whole-requires : tie.Need-copy-whole-requires
+copy-whole-requires c κs = search needs
+
+add-put-run : tie.Need-add-put-run
+add-put-run c = search needs
+
+sub-put-run : tie.Need-sub-put-run
+sub-put-run c = search needs
+
+put-run-requires-2 : tie.Need-put-run-requires-2
+put-run-requires-2 c κs = search needs
+
+same-length-2 : tie.Need-same-length-2
+same-length-2 c = search needs
+
+returns-2 : tie.Need-returns-2
+returns-2 c =
     let u = c .before .before .before .before .before .before in
     let p = u .before .before .before .before in
     let g = p .before .before in
-    let a = g .before .before .before .args in
+    let a = g .before .before .before .before .args in
     let first = p .put-run .last .0 in
     let head = g .head-of .result in
-    let y = bytes-by first (λ i. omega (arith, u .before .before .slice-known2 .given i)) in
+    let y = bytes-by first (λ i. omega (arith, u .before .before .slice-known3 .given i)) in
     store-three (coilAt (a .src .now)) (coil-bit (a .src .now)) (a .dst .now) first (u .copy-whole .last .0) _ (a .at) head
     ((a .n - head) / 8) (a .n) y (omega (arith, p)) (λ h. omega (arith, g)) (omega (arith, g)) (p .put-run .ensures)
     (u .copy-whole .ensures) (c .before .before .put-run2 .ensures)
@@ -60,6 +75,9 @@ pub put-all-spec : {M : Type 1} → statement M
 put-all-spec =
     tie.close
     (tie.spec
+    put-one-requires
+    same-length
+    returns
     head-of-requires
     sub-whole
     mul-done
@@ -70,5 +88,5 @@ put-all-spec =
     add-put-run
     sub-put-run
     put-run-requires-2
-    same-length
-    returns)
+    same-length-2
+    returns-2)
