@@ -1,6 +1,6 @@
 -- A text of digits alone is read to its end, and gives what its pairs stand for; so does one that begins with digits, as far as they go.
 -- Assumes nothing.
-use mathlib.Core.Logic.{_⊎_, ⊎-elim}
+use mathlib.Core.Logic.{_⊎_, inl, inr, ⊎-elim}
 use mathlib.Core.Path.{_≡_, refl, sym, ap, _∙_}
 use mathlib.Core.List.{List, [], _∷_}
 use Prim.Native.Nat.{ℕ, zero, suc, _+_, _*_, _-_, _/_, _≤_, _<_}
@@ -11,10 +11,14 @@ use lib.ListN.{length, getD, take, drop, set, length-set, length-take, length-dr
 use lib.Seq.{sets}
 use Rattle.modbus.specs.Step.{go, choose, _≤?_, _≟_}
 use Rattle.modbus.specs.Bytes.{All}
+use Rattle.modbus.specs.Paper.{told, bytePaper}
 use Rattle.modbus.specs.Hex.{undigit, untext}
 use Rattle.modbus.specs.declared.ErrorKind.the-variants.{OOB}
+use Rattle.modbus.specs.declared.ByteAnswer.{ByteAnswer}
+use Rattle.modbus.specs.declared.ByteAnswer.the-variants as byte
 use Rattle.modbus.proofs.StepLaws.{follow, bound, pick-yes, pick-no, picked}
-use Rattle.modbus.proofs.HexLaws.{undigit-figure, undigit-letter, undigit-none}
+use Rattle.modbus.proofs.PaperLaws.{byte-value}
+use Rattle.modbus.proofs.HexLaws.{undigit-figure, undigit-letter, undigit-none, digit-undigit}
 use Rattle.ascii.specs.Reading.{Ending, finished, refused, onward, StopByte, second, decode, parsed, parsedInto}
 use Rattle.ascii.specs.Plain.{Digit, value, values, begin, Plain}
 use Rattle.ascii.proofs.ReadingLaws.{pair-both, second-some, placed-go, decode-go, text-from, resumed, resumed-go}
@@ -57,6 +61,21 @@ undigit-value c d =
     (λ (p : (48 ≤ c) × (c ≤ 57)). undigit-figure c (p .0) (p .1) ∙ ap go (sym (value-figure c (p .1))))
     (λ (p : (65 ≤ c) × (c ≤ 70)). undigit-letter c (p .0) (p .1) ∙ ap go (sym (value-letter c (omega (arith, p)))))
     d
+
+-- and back: what stands for something is a digit
+value-undigit : (c v : ℕ) → undigit c ≡ go v → Digit c × (v ≡ value c)
+unfolding undigit
+value-undigit c v e =
+    picked _ _ _ e
+    (λ p q. let z : c - 48 ≡ v = cc in (inl p, sym z ∙ sym (value-figure c (p .1))))
+    (λ _ f.
+    picked _ _ _ f
+    (λ p q. let z : c - 55 ≡ v = cc in (inr p, sym z ∙ sym (value-letter c (omega (arith, p)))))
+    (λ _ q. let z : _≡_ {A = ℕ} 0 1 = cc in absurd (omega arith)))
+
+-- r was answered for a character
+pub value-told : (r : ByteAnswer) (c v : ℕ) → bytePaper r ≡ told (undigit c) → r ≡ byte.Value v → (v < 16) × (Digit c × (v ≡ value c))
+value-told r c v e q = let u = byte-value r (undigit c) v e q in (digit-undigit c v u .0, value-undigit c v u)
 
 -- pairs of digits stand for their values
 pub untext-values : (n : ℕ) (t : List ℕ) → length t ≡ 2 * n → All Digit t → untext t ≡ go (values t)

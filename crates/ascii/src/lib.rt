@@ -169,17 +169,6 @@ fn quick_pairs(end: usize, from: usize, room: usize, at: usize) -> usize
     n
 }
 
-// What a digit stands for, 16 for any other character.
-fn digit_value(c: u8) -> u8
-    ensures { λ r. ⌜ (r ≤ 16) × (r < 16 → Digit c × (r ≡ value c)) ⌝ }
-{
-    match c {
-        48..=57 => c - 48,
-        65..=70 => c - 55,
-        _ => 16,
-    }
-}
-
 // Decodes pairs of digits from `from` on to the places of `buf` from `at` on, n of them or up to the first that is none; how many.
 fn decode_digits(data: &[u8], from: usize, n: usize, buf: &mut [u8], at: usize) -> usize
     requires { ⌜ (from + 2 * n ≤ length (now «data»)) × (n ≤ length (now buf) - at) ⌝ }
@@ -187,15 +176,13 @@ fn decode_digits(data: &[u8], from: usize, n: usize, buf: &mut [u8], at: usize) 
 {
     for i in 0..n {
         let k = from + 2 * i;
-        let a = digit_value(data[k]);
-        if a == 16 {
-            return i;
+        match chr_to_hex(data[k]) {
+            ByteAnswer::Refused(_) => return i,
+            ByteAnswer::Value(a) => match chr_to_hex(data[k + 1]) {
+                ByteAnswer::Refused(_) => return i,
+                ByteAnswer::Value(b) => buf[at + i] = a * 16 + b,
+            },
         }
-        let b = digit_value(data[k + 1]);
-        if b == 16 {
-            return i;
-        }
-        buf[at + i] = a * 16 + b;
     }
     n
 }

@@ -5,7 +5,7 @@ use Prim.Native.Nat.{suc, _+_, _*_, _-_, _≤_}
 use native.Mathlib.Omega.{arith}
 use borrow.Author.Needs.{needs}
 use lib.ListN.{length, length-set}
-use Rattle.ascii.proofs.PlainLaws.{Begun, begun-start, begun-on, begun-done}
+use Rattle.ascii.proofs.PlainLaws.{value-told, Begun, begun-start, begun-on, begun-done}
 use Rattle.ascii.proofs.decode_digits.Statement.{statement}
 use Rattle.ascii.proofs.decode_digits.Tie as tie
 
@@ -29,44 +29,65 @@ mul-k c = omega arith
 add-k : tie.Need-add-k Inv-loop μ-loop
 add-k c = omega arith
 
-shared-slice-read-digit-value : tie.Need-shared-slice-read-digit-value Inv-loop μ-loop
-shared-slice-read-digit-value c = omega arith
+shared-slice-read-chr-to-hex : tie.Need-shared-slice-read-chr-to-hex Inv-loop μ-loop
+shared-slice-read-chr-to-hex c = omega arith
 
-digit-value-requires : tie.Need-digit-value-requires Inv-loop μ-loop
-digit-value-requires c κs = search needs
+chr-to-hex-requires : tie.Need-chr-to-hex-requires Inv-loop μ-loop
+chr-to-hex-requires c κs = search needs
+
+enum-told : tie.Need-enum-told Inv-loop μ-loop
+enum-told c = search needs
 
 same-length : tie.Need-same-length Inv-loop μ-loop
-same-length c = c .before .before .before .before .loop .inv .1
+same-length c = c .before .before .before .before .before .loop .inv .1
 
 returns : tie.Need-returns Inv-loop μ-loop
 returns c =
-    let l = c .before .before .before .before in
+    let l = c .before .before .before .before .before in
     let d = begun-done _ _ _ _ _ _ _ (l .loop .inv .2) (omega arith) in
     (l .loop .inv .0, d .0, d .1)
 
-add-digit-value : tie.Need-add-digit-value Inv-loop μ-loop
-add-digit-value c = omega arith
+enum-known-a : tie.Need-enum-known-a Inv-loop μ-loop
+enum-known-a c = search needs
 
-shared-slice-read-digit-value-2 : tie.Need-shared-slice-read-digit-value-2 Inv-loop μ-loop
-shared-slice-read-digit-value-2 c = omega arith
+add-chr-to-hex : tie.Need-add-chr-to-hex Inv-loop μ-loop
+add-chr-to-hex c = omega arith
 
-digit-value-requires-2 : tie.Need-digit-value-requires-2 Inv-loop μ-loop
-digit-value-requires-2 c κs = search needs
+shared-slice-read-chr-to-hex-2 : tie.Need-shared-slice-read-chr-to-hex-2 Inv-loop μ-loop
+shared-slice-read-chr-to-hex-2 c = omega arith
+
+chr-to-hex-requires-2 : tie.Need-chr-to-hex-requires-2 Inv-loop μ-loop
+chr-to-hex-requires-2 c κs = search needs
+
+enum-told-2 : tie.Need-enum-told-2 Inv-loop μ-loop
+enum-told-2 c = search needs
 
 same-length-2 : tie.Need-same-length-2 Inv-loop μ-loop
-same-length-2 c = c .before .before .before .before .before .before .before .loop .inv .1
+same-length-2 c = c .before .before .before .before .before .before .before .before .before .before .loop .inv .1
 
 returns-2 : tie.Need-returns-2 Inv-loop μ-loop
 returns-2 c =
-    let l = c .before .before .before .before .before .before .before in
+    let l = c .before .before .before .before .before .before .before .before .before .before in
     let d = begun-done _ _ _ _ _ _ _ (l .loop .inv .2) (omega arith) in
     (l .loop .inv .0, d .0, d .1)
 
+enum-known-b : tie.Need-enum-known-b Inv-loop μ-loop
+enum-known-b c = search needs
+
 mul-buf : tie.Need-mul-buf Inv-loop μ-loop
-mul-buf c = omega arith
+mul-buf c =
+    let x = c .before .before .before .before .before .before in
+    omega (arith, value-told _ _ _ (x .before .before .chr-to-hex .ensures) (x .a .given .1) .0)
 
 add-buf : tie.Need-add-buf Inv-loop μ-loop
-add-buf c = omega arith
+add-buf c =
+    let y = c .before in
+    let x = y .before .before .before .before .before in
+    omega (
+      arith,
+      value-told _ _ _ (x .before .before .chr-to-hex .ensures) (x .a .given .1) .0,
+      value-told _ _ _ (y .before .before .chr-to-hex2 .ensures) (y .b .given .1) .0,
+    )
 
 add-buf-2 : tie.Need-add-buf-2 Inv-loop μ-loop
 add-buf-2 c = omega arith
@@ -82,16 +103,17 @@ loop-less c = omega arith
 
 loop-again : tie.Need-loop-again Inv-loop μ-loop
 loop-again c =
-    let v = c .before .before .before .before in
-    let l = v .before .before .before in
+    let y = c .before in
+    let x = y .before .before .before .before .before in
+    let l = x .before .before .before .before .before in
     let a = l .before .before .before .args in
     let i = l .loop .i in
     let q : a .from + 2 * (i + 1) ≡ a .from + 2 * i + 2 = omega arith in
     let p : a .at + (i + 1) ≡ suc (a .at + i) = omega arith in (
       omega arith,
       simp length-set (l .loop .inv .1),
-      rw (q, p) (begun-on _ _ _ _ _ _ _ (l .loop .inv .2) _ _ (v .digit-value .ensures .1 (omega arith))
-          (c .before .digit-value2 .ensures .1 (omega arith))),
+      rw (q, p) (begun-on _ _ _ _ _ _ _ (l .loop .inv .2) _ _ (value-told _ _ _ (x .before .before .chr-to-hex .ensures) (x .a .given .1) .1)
+          (value-told _ _ _ (y .before .before .chr-to-hex2 .ensures) (y .b .given .1) .1)),
     )
 
 same-length-3 : tie.Need-same-length-3 Inv-loop μ-loop
@@ -114,15 +136,19 @@ decode-digits-spec =
     loop-holds
     mul-k
     add-k
-    shared-slice-read-digit-value
-    digit-value-requires
+    shared-slice-read-chr-to-hex
+    chr-to-hex-requires
+    enum-told
     same-length
     returns
-    add-digit-value
-    shared-slice-read-digit-value-2
-    digit-value-requires-2
+    enum-known-a
+    add-chr-to-hex
+    shared-slice-read-chr-to-hex-2
+    chr-to-hex-requires-2
+    enum-told-2
     same-length-2
     returns-2
+    enum-known-b
     mul-buf
     add-buf
     add-buf-2
