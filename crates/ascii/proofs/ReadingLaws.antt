@@ -15,10 +15,10 @@ use Rattle.modbus.specs.Hex.{digit, undigit, text}
 use Rattle.modbus.specs.Frame.{line}
 use Rattle.modbus.specs.declared.ErrorKind.{ErrorKind}
 use Rattle.modbus.specs.declared.ErrorKind.the-variants.{OOB}
-use Rattle.modbus.proofs.StepLaws.{pass, fail, follow, halt, needed, bound, picked}
+use Rattle.modbus.proofs.StepLaws.{pass, fail, follow, halt, needed, bound, pick-yes, pick-no, picked}
 use Rattle.modbus.proofs.BytesLaws.{sets-append}
 use Rattle.modbus.proofs.HexLaws.{length-text}
-use Rattle.ascii.specs.Reading.{Ending, finished, refused, Decoded, ends, onward, StopByte, stopByte?, orRefused, second, pair, placed, decode, parsed, counted, parsedInto, generatedInto}
+use Rattle.ascii.specs.Reading.{Ending, finished, refused, Decoded, ends, onward, StopByte, stopByte?, orRefused, second, pair, placed, decode, parsed, counted, parsedInto, putText, generatedInto}
 
 -- ---- a pair
 
@@ -229,6 +229,19 @@ module _ (l end buf : List ℕ) (i at : ℕ) (z : List ℕ) (inv : sets buf at (
   pub rest-done : (after : List ℕ) → length l ≤ i → after ≡ sets buf at end → after ≡ z
   unfolding text
   rest-done after h g = g ∙ (rw (drop-of-length-le l h) at inv)
+
+-- text where there is room for it, and where there is not
+module _ (s : List ℕ) (at : ℕ) (l : List ℕ) where
+  pub text-room : (after : List ℕ) → at + 2 * length l ≤ length s → after ≡ sets s at (text l)
+      → _≡_ {A = Bool × List ℕ} (true, after) (putText s at l)
+  text-room after h e = ap (λ (b : List ℕ). (true, b)) e ∙ sym (pick-yes _ _ _ (omega (arith, length-text l)))
+
+  pub text-no-room : length s < at + 2 * length l → _≡_ {A = Bool × List ℕ} (false, s) (putText s at l)
+  text-no-room h = sym (pick-no _ _ _ (λ (k : at + length (text l) ≤ length s). omega (arith, length-text l)))
+
+  pub text-put : (r : Bool) (after : List ℕ) → _≡_ {A = Bool × List ℕ} (r, after) (putText s at l) → at + 2 * length l ≤ length s
+      → after ≡ sets s at (text l)
+  text-put r after e h = ap (λ (p : Bool × List ℕ). p .1) (e ∙ pick-yes _ _ _ (omega (arith, length-text l)))
 
 -- a line whose colon and text are written
 module _ (l buf after : List ℕ) (e : after ≡ sets (set buf 0 58) 1 (text l)) where

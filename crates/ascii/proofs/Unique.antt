@@ -1,6 +1,7 @@
 -- Each contract leaves one possible result, and one possible content of every lent buffer.
 -- Assumes nothing.
-use mathlib.Core.Path.{refl, sym, ap, _∙_}
+use mathlib.Core.Bool.{Bool}
+use mathlib.Core.Path.{sym, ap, _∙_}
 use mathlib.Core.List.{List}
 use Prim.Native.Nat.{ℕ}
 use Rattle.modbus.proofs.Unique.{Unique, byte-paper, size-paper}
@@ -23,4 +24,6 @@ generate-ascii-frame κs a x y u v p q =
 
 -- the buffer is the first of the parameters
 pub put-text : Unique 2 put-text-kinds.ps put-text-kinds.r put-text-reads.Post
-put-text κs a x y u v p q = (refl, ap (λ (b : List ℕ). (b, u .1)) (p ∙ sym q))
+put-text κs a x y u v p q =
+    let e = p ∙ sym q in
+    (ap (λ (t : Bool × List ℕ). t .0) e, ap (λ (t : Bool × List ℕ). (t .1, u .1)) e)

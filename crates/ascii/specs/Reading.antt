@@ -1,5 +1,6 @@
 -- Document 01, module 2: ASCII text read into a frame buffer, and bytes written as ASCII text.
 -- Assumes nothing.
+use mathlib.Core.Bool.{Bool, true, false}
 use mathlib.Core.Logic.{_⊎_}
 use mathlib.Core.Path.{_≡_}
 use mathlib.Core.List.{List, [], _∷_}
@@ -8,7 +9,7 @@ use lib.ListN.{length, take, drop}
 use lib.Seq.{sets}
 use Rattle.modbus.specs.Step.{Step, stop, go, _>>=_, _>>_, need, choose, _≤?_, _≟_, _or?_, not?}
 use Rattle.modbus.specs.Paper.{told}
-use Rattle.modbus.specs.Hex.{undigit}
+use Rattle.modbus.specs.Hex.{undigit, text}
 use Rattle.modbus.specs.Frame.{line}
 use Rattle.modbus.specs.declared.ErrorKind.{ErrorKind}
 use Rattle.modbus.specs.declared.ErrorKind.the-variants.{OOB}
@@ -86,6 +87,10 @@ abbrev pub parsedInto : List ℕ → ℕ → List ℕ → ℕ → (ℕ × ℕ) �
 parsedInto l n buf at =
     let d = parsed l n (length buf) at in
     (told (counted d (d .ending)), sets buf at (d .bytes))
+
+-- the text of bytes put at a place of a lent slice: whether it ends within the slice, and nothing is put where it does not
+abbrev pub putText : List ℕ → ℕ → List ℕ → Bool × List ℕ
+putText s at l = choose (at + length (text l) ≤? length s) (true, sets s at (text l)) (false, s)
 
 -- a line written into a lent slice: its length, or OOB where the slice ends before it; what came before that end stands
 abbrev pub generatedInto : List ℕ → List ℕ → (ℕ × ℕ) × List ℕ

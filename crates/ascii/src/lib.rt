@@ -16,7 +16,7 @@ ghost use Rattle.modbus.specs.Paper.{bytePaper, sizePaper};
 ghost use Rattle.modbus.specs.Bytes.{All};
 ghost use Rattle.modbus.specs.Hex.{digit, text};
 ghost use Rattle.modbus.specs.Frame.{line};
-ghost use Rattle.ascii.specs.Reading.{stopByte?, pair, parsedInto, generatedInto};
+ghost use Rattle.ascii.specs.Reading.{stopByte?, pair, parsedInto, putText, generatedInto};
 ghost use Rattle.ascii.specs.Plain.{Digit, value, values, Plain};
 ghost use Rattle.ascii.specs.Said.{said};
 ghost use Rattle.ascii.specs.PutTwo.{putTwo};
@@ -273,8 +273,8 @@ fn fits(n: usize, room: usize) -> bool
     true
 }
 
-// Puts the bytes as text, two characters each, to the places from `at` on, where there is room for them.
-pub fn put_text(dst: &mut [u8], at: usize, bytes: &[u8])
+// Lays the bytes as text, two characters each, to the places from `at` on.
+fn lay_text(dst: &mut [u8], at: usize, bytes: &[u8])
     requires { ⌜ at + 2 * length (now bytes) ≤ length (now dst) ⌝ }
     ensures { λ _. ⌜ now (dst .exit) ≡ sets (now (dst .entry)) at (text (now (bytes .entry))) ⌝ }
 {
@@ -285,13 +285,27 @@ pub fn put_text(dst: &mut [u8], at: usize, bytes: &[u8])
     }
 }
 
+// Puts the bytes as text to the places from `at` on, and says whether there was room for it; else nothing is put.
+pub fn put_text(dst: &mut [u8], at: usize, bytes: &[u8]) -> bool
+    ensures { λ r. ⌜ (r, now (dst .exit)) ≡ putText (now (dst .entry)) at (now (bytes .entry)) ⌝ }
+{
+    if dst.len() < at {
+        return false;
+    }
+    if (dst.len() - at) / 2 < bytes.len() {
+        return false;
+    }
+    lay_text(dst, at, bytes);
+    true
+}
+
 // Writes the data as a line of text into a result that has room for it.
 fn write_line(data: &[u8], result: &mut [u8])
     requires { ⌜ 2 * length (now «data») + 3 ≤ length (now result) ⌝ }
     ensures { λ r. ⌜ now (result .exit) ≡ sets (now (result .entry)) 0 (line (now («data» .entry))) ⌝ }
 {
     result[0] = 58;
-    put_text(result, 1, data);
+    lay_text(result, 1, data);
     result[2 * data.len() + 1] = 0x0D;
     result[2 * data.len() + 2] = 0x0A;
 }

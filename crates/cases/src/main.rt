@@ -246,6 +246,5 @@ fn main() {
     let mut text = io::buffer();
     let mut record = io::buffer();
     let t = run(&mut text, &mut record);
-    records::say(b"cases of document 01 run: ", t.records);
-    records::say(b"cases that differ: ", t.wrong);
+    records::report(t, b"cases of document 01 run: ", b"cases that differ: ");
 }

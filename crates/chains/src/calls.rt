@@ -17,7 +17,6 @@
 //                coils, discretes, holdings and inputs: of each length (4), cells (8) and the byte that fills it
 //                behind its front; the front of each
 //   Before the call byte i of the lent response behind its front is (0x5A + i) % 256.
-use crate::parts::lay_response;
 use crate::parts::part;
 use crate::parts::whole;
 use crate::said::bare;
@@ -33,6 +32,7 @@ use octets::byte;
 use records::parts::cut;
 use records::parts::eight;
 use records::parts::lay;
+use records::parts::lay_counted;
 use records::parts::stands;
 use records::parts::wide;
 ghost use Prim.Native.Nat.{_≤_, _<_};
@@ -196,7 +196,7 @@ fn write(record: &[u8], bits: &mut [u8], words: &mut [u8], lent: &mut [u8]) -> b
 }
 
 fn served(record: &[u8], bits: &mut [u8], words: &mut [u8], lent: &mut [u8]) -> bool {
-    lay_response(lent, part(record, 2));
+    lay_counted(lent, part(record, 2));
     match byte(record, 0) {
         32 => read(record, bits, words, lent),
         33 => write(record, bits, words, lent),

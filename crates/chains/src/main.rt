@@ -40,6 +40,5 @@ fn main() {
     let mut bits = [0; calls::BITS];
     let mut words = [0; calls::WORDS];
     let t = run(&mut text, &mut record, &mut bits, &mut words, &mut lent);
-    records::say(b"calls of the frame replayed: ", t.records);
-    records::say(b"calls that differ: ", t.wrong);
+    records::report(t, b"calls of the frame replayed: ", b"calls that differ: ");
 }

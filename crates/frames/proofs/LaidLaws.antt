@@ -1,5 +1,6 @@
 -- A frame laid over a buffer, part by part.
 -- Assumes nothing.
+use mathlib.Core.Bool.{Bool}
 use mathlib.Core.Path.{_≡_, refl, sym, ap, ap₂, _∙_}
 use mathlib.Core.List.{List, [], _∷_, _++_}
 use Prim.Native.Nat.{ℕ, suc, _+_, _*_, _/_, _%_, _<_, _≤_}
@@ -16,6 +17,8 @@ use Rattle.modbus.proofs.StepLaws.{pick-yes, pick-no}
 use Rattle.modbus.proofs.BytesLaws.{sets-append}
 use Rattle.modbus.proofs.HexLaws.{length-text, text-append}
 use Rattle.modbus.proofs.FrameLaws.{length-wrap}
+use Rattle.ascii.specs.Reading.{putText}
+use Rattle.ascii.proofs.ReadingLaws.{text-put}
 use Rattle.frames.specs.Opened.{laid}
 
 -- one byte more of those to be laid
@@ -60,26 +63,33 @@ tcp-laid high low reply body after n h k j e =
     (rw (hi, lo) e)
 
 -- the text of the body and that of its LRC, between the colon and the end of the line
-module _ (reply body first : List ℕ) (n : ℕ) (e : first ≡ sets (set reply 0 58) 1 (text (take n body))) where
-  pub body-kept : length first ≡ length reply
-  body-kept = ap length e ∙ length-sets (set reply 0 58) 1 (text (take n body)) ∙ length-set reply 0 58
+module _ (reply body : List ℕ) (n : ℕ) (h : n ≤ length body) (k : 2 * n + 5 ≤ length reply)
+    (r : Bool) (first : List ℕ) (e : _≡_ {A = Bool × List ℕ} (r, first) (putText (set reply 0 58) 1 (take n body))) where
+  body-put : first ≡ sets (set reply 0 58) 1 (text (take n body))
+  body-put = text-put (set reply 0 58) 1 (take n body) r first e (simp length-set (omega (arith, length-take-le n body h)))
 
-  module _ (after : List ℕ) (x : ℕ) (f : after ≡ sets first (2 * n + 1) (text (x ∷ []))) where
+  body-kept : length first ≡ length reply
+  body-kept = ap length body-put ∙ length-sets (set reply 0 58) 1 (text (take n body)) ∙ length-set reply 0 58
+
+  module _ (x : ℕ) (r′ : Bool) (after : List ℕ) (f : _≡_ {A = Bool × List ℕ} (r′, after) (putText first (2 * n + 1) (x ∷ []))) where
+    check-put : after ≡ sets first (2 * n + 1) (text (x ∷ []))
+    check-put = text-put first (2 * n + 1) (x ∷ []) r′ after f (omega (arith, body-kept))
+
     pub check-kept : length after ≡ length reply
-    check-kept = ap length f ∙ length-sets first (2 * n + 1) (text (x ∷ [])) ∙ body-kept
+    check-kept = ap length check-put ∙ length-sets first (2 * n + 1) (text (x ∷ [])) ∙ body-kept
 
-    pub ascii-laid : n ≤ length body → 2 * n + 5 ≤ length reply → x ≡ lrc (take n body)
+    pub ascii-laid : x ≡ lrc (take n body)
         → _≡_ {A = ℕ × List ℕ} (2 * n + 5, set (set after (2 * n + 3) 13) (2 * n + 4) 10) (laid reply (wrap Ascii [] (take n body)))
-    ascii-laid h k q =
+    ascii-laid q =
         let b = take n body in
-        let r = set reply 0 58 in
+        let s = set reply 0 58 in
         let m = length-take-le n body h in
         let i : 1 + length (text b) ≡ 2 * n + 1 = omega (arith, length-text b) in
         let j : 1 + length (text b ++ text (x ∷ [])) ≡ 2 * n + 3 = simp (length-append, length-text) (omega arith) in
-        let s : 2 * n + 4 ≡ suc (2 * n + 3) = omega arith in
+        let z : 2 * n + 4 ≡ suc (2 * n + 3) = omega arith in
         laid-all reply (wrap Ascii [] b) (2 * n + 5) _ (sym (length-around Ascii [] body n refl h)) k
-        (rw (s, f, e)
-        (sym (ap (λ (v : ℕ). sets r 1 (text (b ++ (v ∷ [])) ++ (13 ∷ 10 ∷ []))) (sym q)
-        ∙ ap (λ (l : List ℕ). sets r 1 (l ++ (13 ∷ 10 ∷ []))) (text-append b (x ∷ []))
-        ∙ sets-append (text b ++ text (x ∷ [])) (13 ∷ 10 ∷ []) r 1 (2 * n + 3) j
-        ∙ ap (λ (l : List ℕ). sets l (2 * n + 3) (13 ∷ 10 ∷ [])) (sets-append (text b) (text (x ∷ [])) r 1 (2 * n + 1) i))))
+        (rw (z, check-put, body-put)
+        (sym (ap (λ (v : ℕ). sets s 1 (text (b ++ (v ∷ [])) ++ (13 ∷ 10 ∷ []))) (sym q)
+        ∙ ap (λ (l : List ℕ). sets s 1 (l ++ (13 ∷ 10 ∷ []))) (text-append b (x ∷ []))
+        ∙ sets-append (text b ++ text (x ∷ [])) (13 ∷ 10 ∷ []) s 1 (2 * n + 3) j
+        ∙ ap (λ (l : List ℕ). sets l (2 * n + 3) (13 ∷ 10 ∷ [])) (sets-append (text b) (text (x ∷ [])) s 1 (2 * n + 1) i))))

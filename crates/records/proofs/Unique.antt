@@ -13,6 +13,8 @@ use Rattle.records.proofs.start.Kinds as start-kinds
 use Rattle.records.proofs.start.Reads as start-reads
 use Rattle.records.proofs.judged.Kinds as judged-kinds
 use Rattle.records.proofs.judged.Reads as judged-reads
+use Rattle.records.proofs.report.Kinds as report-kinds
+use Rattle.records.proofs.report.Reads as report-reads
 use Rattle.records.proofs.parts.wide.Kinds as wide-kinds
 use Rattle.records.proofs.parts.wide.Reads as wide-reads
 use Rattle.records.proofs.parts.eight.Kinds as eight-kinds
@@ -27,6 +29,8 @@ use Rattle.records.proofs.parts.laid.Kinds as laid-kinds
 use Rattle.records.proofs.parts.laid.Reads as laid-reads
 use Rattle.records.proofs.parts.lay.Kinds as lay-kinds
 use Rattle.records.proofs.parts.lay.Reads as lay-reads
+use Rattle.records.proofs.parts.lay_counted.Kinds as lay-counted-kinds
+use Rattle.records.proofs.parts.lay_counted.Reads as lay-counted-reads
 use Rattle.records.proofs.parts.stands.Kinds as stands-kinds
 use Rattle.records.proofs.parts.stands.Reads as stands-reads
 
@@ -35,6 +39,9 @@ start κs a x y u v p q = (p ∙ sym q, refl)
 
 pub judged : Unique 0 judged-kinds.ps judged-kinds.r judged-reads.Post
 judged κs a x y u v p q = (p ∙ sym q, refl)
+
+pub report : Unique 2 report-kinds.ps report-kinds.r report-reads.Post
+report κs a x y u v p q = (p ∙ sym q, refl)
 
 pub wide : Unique 1 wide-kinds.ps wide-kinds.r wide-reads.Post
 wide κs a x y u v p q = (p .0 ∙ sym (q .0), refl)
@@ -50,6 +57,9 @@ laid κs a x y u v p q = (p ∙ sym q, refl)
 
 pub lay : Unique 2 lay-kinds.ps lay-kinds.r lay-reads.Post
 lay κs a x y u v p q = (refl, ap (λ (l : List ℕ). (l, u .1)) (p ∙ sym q))
+
+pub lay-counted : Unique 2 lay-counted-kinds.ps lay-counted-kinds.r lay-counted-reads.Post
+lay-counted κs a x y u v p q = (refl, ap (λ (l : List ℕ). (l, u .1)) (p ∙ sym q))
 
 pub stands : Unique 3 stands-kinds.ps stands-kinds.r stands-reads.Post
 stands κs a x y u v p q = (p ∙ sym q, refl)

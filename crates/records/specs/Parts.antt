@@ -2,7 +2,7 @@
 -- Assumes nothing.
 use mathlib.Core.Bool.{Bool, true, false}
 use mathlib.Core.List.{List, [], _∷_, _++_}
-use Prim.Native.Nat.{ℕ, zero, suc, _+_, _-_, _*_}
+use Prim.Native.Nat.{ℕ, zero, suc, _+_, _-_, _*_, _%_}
 use lib.ListN.{length, getD, take, drop}
 use denote.Ref.{RefT, now}
 use Rattle.modbus.specs.Bytes.{wordAt}
@@ -40,6 +40,10 @@ made f (suc n) = made f n ++ (f n ∷ [])
 -- a buffer that holds `front`, and then the byte `filler` to its end
 abbrev pub laidIn : List ℕ → List ℕ → ℕ → List ℕ
 laidIn buffer front filler = made (λ i. getD front i filler) (length buffer)
+
+-- the same with the bytes 5A, 5B and so on behind it, each by its place
+abbrev pub countedIn : List ℕ → List ℕ → List ℕ
+countedIn buffer front = made (λ i. getD front i ((90 + i) % 256)) (length buffer)
 
 -- the byte i where `front` was laid with `filler` behind it, and then `after` came to stand from `at` on
 abbrev pub wantedAt : List ℕ → ℕ → ℕ → List ℕ → ℕ → ℕ

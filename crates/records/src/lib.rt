@@ -5,9 +5,11 @@ pub mod parts;
 use libc::STDIN_FILENO;
 use libc::STDOUT_FILENO;
 use modbus::ByteAnswer;
+ghost use mathlib.Core.Bool.{true, false};
 ghost use mathlib.Core.Path.{_≡_};
 ghost use Prim.Native.Nat.{_≤_};
 ghost use lib.ListN.{length};
+ghost use Rattle.modbus.specs.Step.{choose, _≟_};
 ghost use Rattle.records.specs.Counted.{opening, tallied};
 
 // Where the reading stands: in the text that was read last, and in the line.
@@ -181,8 +183,20 @@ pub fn judged(t: Tally, right: bool) -> Tally
 }
 
 // A line on standard output.
-pub fn say(what: &[u8], n: u64) {
+fn say(what: &[u8], n: u64) {
     io::write_all(STDOUT_FILENO, what);
     io::print_decimal(STDOUT_FILENO, n);
     io::write_all(STDOUT_FILENO, b"\n");
+}
+
+// Says how many records were run, and how many of them were answered otherwise; whether none was.
+pub fn report(t: Tally, run: &[u8], differ: &[u8]) -> bool
+    ensures { λ r. ⌜ r ≡ choose (t .wrong ≟ 0) true false ⌝ }
+{
+    say(run, t.records);
+    say(differ, t.wrong);
+    if t.wrong != 0 {
+        return false;
+    }
+    true
 }

@@ -4,7 +4,7 @@ use octets::word;
 ghost use mathlib.Core.Path.{_≡_};
 ghost use Prim.Native.Nat.{_<_};
 ghost use lib.ListN.{getD};
-ghost use Rattle.records.specs.Parts.{wideAt, eightAt, startOf, cutOf, partOf, laidIn, wantedAt, stood};
+ghost use Rattle.records.specs.Parts.{wideAt, eightAt, startOf, cutOf, partOf, laidIn, countedIn, wantedAt, stood};
 
 // Numbers of four and of eight bytes, high byte first; what lies outside the record is 0.
 pub fn wide(record: &[u8], at: usize) -> usize
@@ -75,6 +75,15 @@ pub fn lay(buffer: &mut [u8], front: &[u8], filler: u8)
 {
     for i in 0..buffer.len() {
         buffer[i] = laid(i, front, filler);
+    }
+}
+
+// Behind the front stand the bytes 5A, 5B and so on, each by its place.
+pub fn lay_counted(buffer: &mut [u8], front: &[u8])
+    ensures { λ _. ⌜ now (buffer .exit) ≡ countedIn (now (buffer .entry)) (now (front .entry)) ⌝ }
+{
+    for i in 0..buffer.len() {
+        buffer[i] = laid(i, front, ((0x5a + i % 256) % 256) as u8);
     }
 }
 

@@ -38,17 +38,6 @@ fn answer(call: u8, small: u8, size: usize, input: &[u8], lent: &mut [u8]) -> An
     }
 }
 
-// The contents that every lent buffer has before a call.
-fn fill(lent: &mut [u8]) {
-    let mut next: u8 = 0x5A;
-    let mut i = 0;
-    while i < lent.len() {
-        lent[i] = next;
-        next = std::num::wrapping_add_u8(next, 1);
-        i += 1;
-    }
-}
-
 // The data_len of a record, where 65,535 stands for the largest there is.
 fn size_of(record: &[u8]) -> usize {
     let size = octets::word(record, 2);
@@ -63,7 +52,7 @@ fn agrees(record: &[u8], input: &[u8], after: &[u8], lent: &mut [u8]) -> bool {
     if record.len() < HEAD {
         return false;
     }
-    fill(lent);
+    records::parts::lay_counted(lent, &[]);
     let size = size_of(record);
     let got = answer(record[0], record[1], size, input, lent);
     if got.kind != record[8] {
@@ -113,6 +102,9 @@ fn main() {
     let mut record = io::buffer();
     let mut lent = io::buffer();
     let t = replay(&mut text, &mut record, &mut lent);
-    records::say(b"answers of the crate replayed: ", t.records);
-    records::say(b"answers that differ: ", t.wrong);
+    records::report(
+        t,
+        b"answers of the crate replayed: ",
+        b"answers that differ: ",
+    );
 }

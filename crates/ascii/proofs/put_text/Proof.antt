@@ -1,115 +1,34 @@
--- `ascii::put_text` meets its contract. The loop's invariant: what is left of the text makes the buffer the one asked.
+-- `ascii::put_text` meets its contract.
 -- Assumes nothing.
-use mathlib.Core.Path.{_≡_, refl, ap, _∙_}
-use mathlib.Core.List.{List, [], _∷_, append-nil}
-use Prim.Native.Nat.{ℕ, suc, _+_, _*_, _-_, _≤_}
 use native.Mathlib.Omega.{arith}
-use native.Mathlib.Nat.{add-zero}
-use lib.Bits.{and-mask}
-use lib.ListN.{length, getD, set, length-set}
-use lib.Seq.{sets}
-use Rattle.modbus.specs.Hex.{digit, text}
-use Rattle.ascii.proofs.ReadingLaws.{rest, rest-step, rest-done}
+use borrow.Author.Needs.{needs}
+use Rattle.ascii.proofs.ReadingLaws.{text-room, text-no-room}
 use Rattle.ascii.proofs.put_text.Statement.{statement}
 use Rattle.ascii.proofs.put_text.Tie as tie
 
-abbrev Inv-loop : tie.InvT-loop
-Inv-loop dst₀ at bytes i₀ i-end dst i =
-    (i ≤ length bytes)
-    × (length dst ≡ length dst₀)
-    × (sets dst (at + 2 * i) (rest bytes [] i) ≡ sets dst₀ at (rest bytes [] 0))
-
-abbrev μ-loop : tie.MeasureT-loop
-μ-loop dst₀ at bytes i₀ i-end dst i = i-end - i
-
--- the places of two characters, as the code counts them
-two-places : (s : List ℕ) (k x y : ℕ) → set (set s k x) (k + 1) y ≡ sets s k (x ∷ y ∷ [])
-two-places s k x y = let e : k + 1 ≡ suc k = omega arith in rw e
-
-loop-holds : tie.Need-loop-holds Inv-loop μ-loop
-loop-holds c = let a = c .before .before .args in (omega arith, refl, rw (add-zero (a .at)))
-
-shared-slice-read-b : tie.Need-shared-slice-read-b Inv-loop μ-loop
-shared-slice-read-b c = omega arith
-
-character-requires : tie.Need-character-requires Inv-loop μ-loop
-character-requires c κs = omega (arith, c .shared-slice-known2 .given (c .before .before .loop .i))
-
-mul-dst : tie.Need-mul-dst Inv-loop μ-loop
-mul-dst c = omega arith
-
-add-dst : tie.Need-add-dst Inv-loop μ-loop
-add-dst c = omega arith
-
-slice-write-dst : tie.Need-slice-write-dst Inv-loop μ-loop
-slice-write-dst c = omega (arith, c .before .before .before .loop .inv .1)
-
-character-requires-2 : tie.Need-character-requires-2 Inv-loop μ-loop
-character-requires-2 c κs =
-    let l = c .before .before .before in
-    let a = l .before .before .before .args in
-    omega (arith, and-mask (getD (a .bytes .now) (l .loop .i) 0) 4)
-
-mul-dst-2 : tie.Need-mul-dst-2 Inv-loop μ-loop
-mul-dst-2 c = omega arith
-
-add-dst-2 : tie.Need-add-dst-2 Inv-loop μ-loop
-add-dst-2 c = omega arith
-
-add-dst-3 : tie.Need-add-dst-3 Inv-loop μ-loop
-add-dst-3 c = omega arith
-
-slice-write-dst-2 : tie.Need-slice-write-dst-2 Inv-loop μ-loop
-slice-write-dst-2 c = simp length-set (omega (arith, c .before .before .before .before .loop .inv .1))
-
-add-i : tie.Need-add-i Inv-loop μ-loop
-add-i c = omega arith
-
-loop-less : tie.Need-loop-less Inv-loop μ-loop
-loop-less c = omega arith
-
-loop-again : tie.Need-loop-again Inv-loop μ-loop
-loop-again c =
-    let l = c .before .before .before .before in
-    let a = l .before .before .before .args in
-    let i = l .loop .i in
-    let k : a .at + 2 * i + 2 ≡ a .at + 2 * (i + 1) = omega arith in (
-      omega arith,
-      simp length-set (l .loop .inv .1),
-      rw k at (rest-step (a .bytes .now) [] (l .loop .dst) i (a .at + 2 * i) _ (l .loop .inv .2) _ _ _ (omega arith)
-          (c .before .character .ensures) (c .character2 .ensures ∙ ap digit (and-mask _ 4))
-          (two-places (l .loop .dst) (a .at + 2 * i) _ _)),
-    )
-
-same-length : tie.Need-same-length Inv-loop μ-loop
-same-length c = c .before .loop .inv .1
-
-returns : tie.Need-returns Inv-loop μ-loop
+returns : tie.Need-returns
 returns c =
-    let l = c .before in
-    let a = l .before .before .before .args in
-    rest-done (a .bytes .now) [] (l .loop .dst) (l .loop .i) (a .at + 2 * l .loop .i) _ (l .loop .inv .2) _ (omega arith) refl
-    ∙ ap (sets (a .dst .now) (a .at)) (append-nil (text (a .bytes .now)))
+    let a = c .before .before .before .args in text-no-room (a .dst .now) (a .at) (a .bytes .now) (omega arith)
+
+sub-if2 : tie.Need-sub-if2
+sub-if2 c = search needs
+
+returns-2 : tie.Need-returns-2
+returns-2 c =
+    let a = c .before .before .before .before .args in text-no-room (a .dst .now) (a .at) (a .bytes .now) (omega arith)
+
+lay-text-requires : tie.Need-lay-text-requires
+lay-text-requires c κs = search needs
+
+same-length : tie.Need-same-length
+same-length c = search needs
+
+returns-3 : tie.Need-returns-3
+returns-3 c =
+    let l = c .before .before in
+    let a = l .before .before .before .before .before .before .args in
+    text-room (a .dst .now) (a .at) (a .bytes .now) _ (omega arith) (l .lay-text .ensures)
 
 pub put-text-spec : {M : Type 1} → statement M
 put-text-spec =
-    tie.close
-    (tie.spec
-    Inv-loop
-    μ-loop
-    loop-holds
-    shared-slice-read-b
-    character-requires
-    mul-dst
-    add-dst
-    slice-write-dst
-    character-requires-2
-    mul-dst-2
-    add-dst-2
-    add-dst-3
-    slice-write-dst-2
-    add-i
-    loop-less
-    loop-again
-    same-length
-    returns)
+    tie.close (tie.spec returns sub-if2 returns-2 lay-text-requires same-length returns-3)

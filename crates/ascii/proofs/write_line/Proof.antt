@@ -10,8 +10,8 @@ use Rattle.ascii.proofs.write_line.Tie as tie
 slice-write-result : tie.Need-slice-write-result
 slice-write-result c = search needs
 
-put-text-requires : tie.Need-put-text-requires
-put-text-requires c κs = simp length-set (omega arith)
+lay-text-requires : tie.Need-lay-text-requires
+lay-text-requires c κs = simp length-set (omega arith)
 
 mul-result : tie.Need-mul-result
 mul-result c = search needs
@@ -23,7 +23,7 @@ slice-write-result-2 : tie.Need-slice-write-result-2
 slice-write-result-2 c =
     let p = c .before .before in
     let a = p .before .before .before .before .args in
-    omega (arith, text-kept (a .«data» .now) (a .result .now) _ (p .put-text .ensures))
+    omega (arith, text-kept (a .«data» .now) (a .result .now) _ (p .lay-text .ensures))
 
 mul-result-2 : tie.Need-mul-result-2
 mul-result-2 c = search needs
@@ -35,26 +35,26 @@ slice-write-result-3 : tie.Need-slice-write-result-3
 slice-write-result-3 c =
     let p = c .before .before in
     let a = p .before .before .before .before .args in
-    simp length-set (omega (arith, text-kept (a .«data» .now) (a .result .now) _ (p .put-text .ensures)))
+    simp length-set (omega (arith, text-kept (a .«data» .now) (a .result .now) _ (p .lay-text .ensures)))
 
 same-length : tie.Need-same-length
 same-length c =
     let p = c .before .before in
     let a = p .before .before .before .before .args in
-    simp length-set (text-kept (a .«data» .now) (a .result .now) _ (p .put-text .ensures))
+    simp length-set (text-kept (a .«data» .now) (a .result .now) _ (p .lay-text .ensures))
 
 returns : tie.Need-returns
 returns c =
     let p = c .before .before in
     let a = p .before .before .before .before .args in
-    text-ended (a .«data» .now) (a .result .now) _ (p .put-text .ensures)
+    text-ended (a .«data» .now) (a .result .now) _ (p .lay-text .ensures)
 
 pub write-line-spec : {M : Type 1} → statement M
 write-line-spec =
     tie.close
     (tie.spec
     slice-write-result
-    put-text-requires
+    lay-text-requires
     mul-result
     add-result
     slice-write-result-2

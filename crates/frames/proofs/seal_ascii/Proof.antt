@@ -9,7 +9,7 @@ use lib.Seq.{length-take-le}
 use Rattle.modbus.specs.Frame.{wrap}
 use Rattle.modbus.specs.declared.ModbusProto.the-variants.{Ascii}
 use Rattle.checks.proofs.WithinLaws.{lrc-value, lrc-never}
-use Rattle.frames.proofs.LaidLaws.{laid-none, length-around, body-kept, check-kept, ascii-laid}
+use Rattle.frames.proofs.LaidLaws.{laid-none, length-around, check-kept, ascii-laid}
 use Rattle.frames.proofs.seal_ascii.Statement.{statement}
 use Rattle.frames.proofs.seal_ascii.Tie as tie
 
@@ -43,9 +43,7 @@ slice-aggregate-put-text c =
     sym (length-take-le (a .n) (a .body .now) (omega arith))
 
 put-text-requires : tie.Need-put-text-requires
-put-text-requires c κs =
-    let a = c .before .before .before .before .before .before .before .before .before .args in
-    simp length-set (omega (arith, length-take-le (a .n) (a .body .now) (omega arith)))
+put-text-requires c κs = search needs
 
 mul-put-text : tie.Need-mul-put-text
 mul-put-text c = search needs
@@ -57,10 +55,7 @@ slice-aggregate-put-text-2 : tie.Need-slice-aggregate-put-text-2
 slice-aggregate-put-text-2 c = search needs
 
 put-text-requires-2 : tie.Need-put-text-requires-2
-put-text-requires-2 c κs =
-    let q = c .before .before .before .before in
-    let a = q .before .before .before .before .before .before .before .before .before .before .args in
-    omega (arith, body-kept (a .reply .now) (a .body .now) _ (a .n) (q .put-text .ensures))
+put-text-requires-2 c κs = search needs
 
 mul-reply : tie.Need-mul-reply
 mul-reply c = search needs
@@ -74,7 +69,7 @@ slice-write-reply-2 c =
     let q = p .before .before .before .before .before in
     let m = q .before .before .before .before .before .before in
     let a = m .before .before .before .before .args in
-    omega (arith, check-kept (a .reply .now) (a .body .now) _ (a .n) (q .put-text .ensures) _ _ (p .put-text2 .ensures))
+    omega (arith, check-kept (a .reply .now) (a .body .now) (a .n) (omega arith) (omega arith) _ _ (q .put-text .ensures) _ _ _ (p .put-text2 .ensures))
 
 mul-reply-2 : tie.Need-mul-reply-2
 mul-reply-2 c = search needs
@@ -88,7 +83,7 @@ slice-write-reply-3 c =
     let q = p .before .before .before .before .before in
     let m = q .before .before .before .before .before .before in
     let a = m .before .before .before .before .args in
-    simp length-set (omega (arith, check-kept (a .reply .now) (a .body .now) _ (a .n) (q .put-text .ensures) _ _ (p .put-text2 .ensures)))
+    simp length-set (omega (arith, check-kept (a .reply .now) (a .body .now) (a .n) (omega arith) (omega arith) _ _ (q .put-text .ensures) _ _ _ (p .put-text2 .ensures)))
 
 mul-result : tie.Need-mul-result
 mul-result c = search needs
@@ -108,7 +103,7 @@ same-length c =
     let q = p .before .before .before .before .before in
     let m = q .before .before .before .before .before .before in
     let a = m .before .before .before .before .args in
-    simp length-set (check-kept (a .reply .now) (a .body .now) _ (a .n) (q .put-text .ensures) _ _ (p .put-text2 .ensures))
+    simp length-set (check-kept (a .reply .now) (a .body .now) (a .n) (omega arith) (omega arith) _ _ (q .put-text .ensures) _ _ _ (p .put-text2 .ensures))
 
 returns-3 : tie.Need-returns-3
 returns-3 c =
@@ -117,7 +112,7 @@ returns-3 c =
     let m = q .before .before .before .before .before .before in
     let a = m .before .before .before .before .args in
     let e = lrc-value _ (a .body .now) (a .n) (omega arith) (m .calc-lrc .ensures) _ (q .before .before .before .before .lrc .given .1) in
-    ascii-laid (a .reply .now) (a .body .now) _ (a .n) (q .put-text .ensures) _ _ (p .put-text2 .ensures) (omega arith) (omega arith) e
+    ascii-laid (a .reply .now) (a .body .now) (a .n) (omega arith) (omega arith) _ _ (q .put-text .ensures) _ _ _ (p .put-text2 .ensures) e
 
 pub seal-ascii-spec : {M : Type 1} → statement M
 seal-ascii-spec =
