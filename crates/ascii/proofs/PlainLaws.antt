@@ -2,6 +2,7 @@
 -- Assumes nothing.
 use mathlib.Core.Logic.{_⊎_, inl, inr, ⊎-elim}
 use mathlib.Core.Path.{_≡_, refl, sym, ap, _∙_}
+use mathlib.Core.Bool.{true, false}
 use mathlib.Core.List.{List, [], _∷_}
 use Prim.Native.Nat.{ℕ, zero, suc, _+_, _*_, _-_, _/_, _≤_, _<_}
 use native.Mathlib.Omega.{arith}
@@ -20,7 +21,7 @@ use Rattle.modbus.proofs.StepLaws.{follow, bound, pick-yes, pick-no, picked}
 use Rattle.modbus.proofs.PaperLaws.{byte-value}
 use Rattle.modbus.proofs.HexLaws.{undigit-figure, undigit-letter, undigit-none, digit-undigit}
 use Rattle.ascii.specs.Reading.{Ending, finished, refused, onward, StopByte, second, decode, parsed, parsedInto}
-use Rattle.ascii.specs.Plain.{Digit, value, values, begin, Plain}
+use Rattle.ascii.specs.Plain.{Digit, digit?, value, values, begin, Plain}
 use Rattle.ascii.proofs.ReadingLaws.{pair-both, second-some, placed-go, decode-go, text-from, resumed, resumed-go}
 
 -- a digit is no stop byte
@@ -152,14 +153,27 @@ unfolding values
 values-done s e k buf p z inv h =
     let j : length (take e s) ≤ k = simp length-take (omega arith) in rw (drop-of-length-le (take e s) j) at inv
 
+-- no test says both
+pub never : {P : Type 0} → false ≡ true → P
+never e = let z : _≡_ {A = ℕ} 0 1 = cc in absurd (omega arith)
+
+-- what is said of no digit is 1
+pub other-none : (c x : ℕ) → x ≡ choose (digit? c) 0 1 → x ≡ 0 → Digit c
+other-none c x e z = picked _ _ _ (sym e) (λ d _. d) (λ _ q. absurd (omega arith))
+
+-- an or of nothing
+pub or-none : (o x : ℕ) → bitOr o x ≡ 0 → (o ≡ 0) × (x ≡ 0)
+or-none o x q =
+    let a = or-add-and o x in
+    let l = and-le-l o x in
+    let m = and-le-r o x in
+    (omega arith, omega arith)
+
 -- no other character so far, where the digits from k on are digits
 pub others-step : (s : List ℕ) (e k o x : ℕ) (P : Type 0) → (o ≡ 0 → All Digit (drop k (take e s)) → P) → k < e → e ≤ length s
     → (x ≡ 0 → Digit (getD s k 0)) → bitOr o x ≡ 0 → All Digit (drop (k + 1) (take e s)) → P
 others-step s e k o x P inv h j d q r =
-    let a = or-add-and o x in
-    let l = and-le-l o x in
-    let m = and-le-r o x in
-    inv (omega arith) (rw (text-from s e k h j) (d (omega arith), r))
+    let n = or-none o x q in inv (n .0) (rw (text-from s e k h j) (d (n .1), r))
 
 pub others-done : (s : List ℕ) (e k : ℕ) → e ≤ k → All Digit (drop k (take e s))
 others-done s e k h =

@@ -1,16 +1,26 @@
 -- Each contract leaves one possible result, and one possible content of every lent buffer.
 -- Assumes nothing.
 use mathlib.Core.Bool.{Bool}
-use mathlib.Core.Path.{sym, ap, _∙_}
+use mathlib.Core.Path.{refl, sym, ap, _∙_}
 use mathlib.Core.List.{List}
 use Prim.Native.Nat.{ℕ}
 use Rattle.modbus.proofs.Unique.{Unique, byte-paper, size-paper}
+use Rattle.ascii.proofs.other.Kinds as other-kinds
+use Rattle.ascii.proofs.other.Reads as other-reads
+use Rattle.ascii.proofs.low_digit.Kinds as low-digit-kinds
+use Rattle.ascii.proofs.low_digit.Reads as low-digit-reads
 use Rattle.ascii.proofs.parse_ascii_frame.Kinds as parse-ascii-frame-kinds
 use Rattle.ascii.proofs.parse_ascii_frame.Reads as parse-ascii-frame-reads
 use Rattle.ascii.proofs.put_text.Kinds as put-text-kinds
 use Rattle.ascii.proofs.put_text.Reads as put-text-reads
 use Rattle.ascii.proofs.generate_ascii_frame.Kinds as generate-ascii-frame-kinds
 use Rattle.ascii.proofs.generate_ascii_frame.Reads as generate-ascii-frame-reads
+
+pub other : Unique 0 other-kinds.ps other-kinds.r other-reads.Post
+other κs a x y u v p q = (p ∙ sym q, refl)
+
+pub low-digit : Unique 0 low-digit-kinds.ps low-digit-kinds.r low-digit-reads.Post
+low-digit κs a x y u v p q = (p ∙ sym q, refl)
 
 pub parse-ascii-frame : Unique 2 parse-ascii-frame-kinds.ps parse-ascii-frame-kinds.r parse-ascii-frame-reads.Post
 parse-ascii-frame κs a x y u v p q =

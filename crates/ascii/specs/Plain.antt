@@ -5,11 +5,14 @@ use mathlib.Core.Path.{_≡_}
 use mathlib.Core.List.{List, [], _∷_}
 use Prim.Native.Nat.{ℕ, _+_, _*_, _-_, _/_, _≤_}
 use lib.ListN.{length, getD, take, drop}
-use Rattle.modbus.specs.Step.{choose, _≤?_, _≟_}
+use Rattle.modbus.specs.Step.{choose, _≤?_, _≟_, _and?_, _or?_}
 use Rattle.modbus.specs.Bytes.{All}
 
 abbrev pub Digit : ℕ → Type 0
 Digit c = ((48 ≤ c) × (c ≤ 57)) ⊎ ((65 ≤ c) × (c ≤ 70))
+
+abbrev pub digit? : (c : ℕ) → Dec (Digit c)
+digit? c = ((48 ≤? c) and? (c ≤? 57)) or? ((65 ≤? c) and? (c ≤? 70))
 
 -- what a digit stands for
 abbrev pub value : ℕ → ℕ

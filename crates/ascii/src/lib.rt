@@ -5,10 +5,11 @@ use modbus::ErrorKind;
 use modbus::SizeAnswer;
 use octets::least;
 use octets::put_byte;
+use std::num::wrapping_sub_u8;
 ghost use mathlib.Core.Logic.{_⊎_};
 ghost use mathlib.Core.Path.{_≡_};
 ghost use mathlib.Core.Bool.{true, false};
-ghost use Prim.Native.Nat.{_+_, _*_, _-_, _<_, _≤_};
+ghost use Prim.Native.Nat.{_+_, _*_, _-_, _%_, _<_, _≤_};
 ghost use lib.ListN.{length, getD, take, drop};
 ghost use lib.Seq.{sets};
 ghost use Rattle.modbus.specs.Step.{choose, _≤?_, _≟_};
@@ -17,7 +18,7 @@ ghost use Rattle.modbus.specs.Bytes.{All};
 ghost use Rattle.modbus.specs.Hex.{digit, text};
 ghost use Rattle.modbus.specs.Frame.{line};
 ghost use Rattle.ascii.specs.Reading.{stopByte?, pair, parsedInto, putText, generatedInto};
-ghost use Rattle.ascii.specs.Plain.{Digit, value, values, Plain};
+ghost use Rattle.ascii.specs.Plain.{Digit, digit?, value, values, Plain};
 ghost use Rattle.ascii.specs.Said.{said};
 ghost use Rattle.ascii.specs.PutTwo.{putTwo};
 
@@ -70,26 +71,20 @@ fn colon(c: u8) -> usize
     if c == 58 { 1 } else { 0 }
 }
 
-// 0 for a digit 0-9 or A-F, 1 for any other character.
-fn other(c: u8) -> u8
-    ensures { λ r. ⌜ (r ≡ 0 → Digit c) ⌝ }
+// 0 for a digit 0-9 or A-F, 1 for any other character. By two differences that wrap: so the compiler tests sixteen at a time.
+pub fn other(c: u8) -> u8
+    ensures { λ r. ⌜ r ≡ choose (digit? c) 0 1 ⌝ }
 {
-    if c < 48 {
-        return 1;
-    }
-    if c <= 57 {
+    if wrapping_sub_u8(c, 48) < 10 {
         return 0;
     }
-    if c < 65 {
-        return 1;
+    if wrapping_sub_u8(c, 65) < 6 {
+        return 0;
     }
-    if 70 < c {
-        return 1;
-    }
-    0
+    1
 }
 
-// Whether the characters from `from` to before `end` are all digits. No way out on the way: so the compiler tests sixteen at a time.
+// Whether the characters from `from` to before `end` are all digits. There is no way out on the way, for the same reason.
 fn all_digits(data: &[u8], from: usize, end: usize) -> bool
     requires { ⌜ end ≤ length (now «data») ⌝ }
     ensures { λ r. ⌜ (r ≡ true → All Digit (drop from (take end (now («data» .entry))))) ⌝ }
@@ -248,6 +243,30 @@ fn character(h: u8) -> u8
 {
     let more: u8 = if h < 10 { 0 } else { 7 };
     h + 48 + more
+}
+
+// The character of a byte's lower half. By a table: so one character takes one look.
+pub fn low_digit(b: u8) -> u8
+    ensures { λ r. ⌜ r ≡ digit (b % 16) ⌝ }
+{
+    match b % 16 {
+        0 => 48,
+        1 => 49,
+        2 => 50,
+        3 => 51,
+        4 => 52,
+        5 => 53,
+        6 => 54,
+        7 => 55,
+        8 => 56,
+        9 => 57,
+        10 => 65,
+        11 => 66,
+        12 => 67,
+        13 => 68,
+        14 => 69,
+        _ => 70,
+    }
 }
 
 // Puts two bytes, and says whether there was room for both.

@@ -6,19 +6,19 @@ use mathlib.Core.List.{List, [], _∷_}
 use Prim.Native.Nat.{ℕ, zero, suc, _+_, _≤_}
 use native.Mathlib.Omega.{arith}
 use lib.ListN.{length, take, drop, getD, length-take, length-drop}
-use lib.Seq.{sets, take-all, length-sets}
+use lib.Seq.{sets, take-all}
 use Rattle.modbus.specs.Step.{go}
 use Rattle.modbus.specs.Frame.{wrap, tagLength, around}
 use Rattle.modbus.specs.Setup.{roomFor}
 use Rattle.modbus.specs.Decode.{Message, unwrap}
 use Rattle.modbus.specs.declared.ModbusProto.{ModbusProto}
 use Rattle.modbus.specs.declared.ModbusProto.the-variants.{Rtu, Ascii, TcpUdp}
-use Rattle.modbus.proofs.StepLaws.{needed, pick-yes, either}
+use Rattle.modbus.proofs.StepLaws.{needed, pick-yes}
 use Rattle.modbus.proofs.FrameLaws.{length-wrap}
-use Rattle.frames.specs.Opened.{opened, lined?, openedText, laid}
+use Rattle.frames.specs.Opened.{opened, laid}
 use Rattle.frames.specs.declared.Opened.{Opened}
 use Rattle.frames.specs.declared.Opened.the-variants.{Body, Broken, Check}
-use Rattle.frames.proofs.OpenedLaws.{told-broken, told-check, rtu-told, tcp-told, text-told}
+use Rattle.frames.proofs.OpenedLaws.{Told, told-broken, told-check, rtu-told, tcp-told, text-told}
 use Rattle.driver.specs.declared.Served.{Served}
 use Rattle.driver.specs.declared.Served.the-variants.{Quiet, Sent}
 use Rattle.driver.specs.Serving.{refused, turnOf, Brief, tagged, mute, sizeOf, unsentOf, sentOf, shut, source, startOf, Unframed}
@@ -118,19 +118,11 @@ long : (f : List ℕ) (m : Message) → unwrap Ascii f ≡ go m → 2 ≤ length
 unfolding unwrap
 long f m e = needed _ _ _ e λ h _. omega arith
 
-pub text-kept : (f raw after : List ℕ) (r : Opened) → _≡_ {A = Opened × List ℕ} (r, after) (openedText f raw) → length after ≡ length raw
-text-kept f raw after r e =
-    ap (λ (x : Opened × List ℕ). length (x .1)) e
-    ∙ either (λ (x : List ℕ). length x ≡ length raw) (lined? f) _ raw (λ h. simp length-sets) (λ n. refl)
-
-pub text-unframed : (f raw after : List ℕ) (r : Opened) → length raw ≡ 256
-    → _≡_ {A = Opened × List ℕ} (r, after) (openedText f raw) → Unframed Ascii f after r
-text-unframed f raw after r g e =
-    let a : after ≡ openedText f raw .1 = ap (λ (x : Opened × List ℕ). x .1) e in
-    unframed Ascii f after r (ap (λ (x : Opened × List ℕ). x .0) e) (λ n q.
-    let (low, high, u) = text-told f raw n g q in
-    let m = text-kept f raw after r e in
-    (u ∙ ap (λ (x : List ℕ). go (record { tag = []; body = take n x })) (sym a), (low, (omega arith, long f _ u))))
+pub text-unframed : (f raw : List ℕ) (r : Opened) → length raw ≡ 256 → Told f r raw → Unframed Ascii f raw r
+text-unframed f raw r g t =
+    unframed Ascii f raw r (t .0) (λ n q.
+    let (low, high, u) = text-told f raw n g (sym q, t .1) in
+    (u, (low, (omega arith, long f _ u))))
 
 -- where the code finds the body
 pub body-held : (p : ModbusProto) (f raw x : List ℕ) (n : ℕ) → Unframed p f raw (Body n) → source p f raw ≡ x

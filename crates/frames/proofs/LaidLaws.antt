@@ -1,24 +1,23 @@
 -- A frame laid over a buffer, part by part.
 -- Assumes nothing.
-use mathlib.Core.Bool.{Bool}
 use mathlib.Core.Path.{_≡_, refl, sym, ap, ap₂, _∙_}
-use mathlib.Core.List.{List, [], _∷_, _++_}
+use mathlib.Core.List.{List, [], _∷_, _++_, append-assoc}
 use Prim.Native.Nat.{ℕ, suc, _+_, _*_, _/_, _%_, _<_, _≤_}
 use native.Mathlib.Omega.{arith}
 use native.Mathlib.Numerals.{add-one}
-use lib.ListN.{length, take, getD, set, length-set, length-take, length-append}
+use lib.ListN.{length, take, getD, set, length-set, length-take}
 use lib.Seq.{sets, length-sets, take-suc, length-take-le}
 use Rattle.modbus.specs.Check.{crc, lrc}
-use Rattle.modbus.specs.Hex.{text}
+use Rattle.modbus.specs.Hex.{digit, text}
 use Rattle.modbus.specs.Frame.{wrap, tagLength, around}
 use Rattle.modbus.specs.declared.ModbusProto.{ModbusProto}
 use Rattle.modbus.specs.declared.ModbusProto.the-variants.{Rtu, Ascii, TcpUdp}
 use Rattle.modbus.proofs.StepLaws.{pick-yes, pick-no}
 use Rattle.modbus.proofs.BytesLaws.{sets-append}
+use Rattle.modbus.proofs.CheckLaws.{lrc-lt}
 use Rattle.modbus.proofs.HexLaws.{length-text, text-append}
 use Rattle.modbus.proofs.FrameLaws.{length-wrap}
-use Rattle.ascii.specs.Reading.{putText}
-use Rattle.ascii.proofs.ReadingLaws.{text-put}
+use Rattle.ascii.proofs.ReadingLaws.{crlf}
 use Rattle.frames.specs.Opened.{laid}
 
 -- one byte more of those to be laid
@@ -62,34 +61,30 @@ tcp-laid high low reply body after n h k j e =
     laid-all reply (wrap TcpUdp (high ∷ low ∷ []) (take n body)) (n + 6) _ (sym (length-around TcpUdp (high ∷ low ∷ []) body n refl h)) j
     (rw (hi, lo) e)
 
--- the text of the body and that of its LRC, between the colon and the end of the line
-module _ (reply body : List ℕ) (n : ℕ) (h : n ≤ length body) (k : 2 * n + 5 ≤ length reply)
-    (r : Bool) (first : List ℕ) (e : _≡_ {A = Bool × List ℕ} (r, first) (putText (set reply 0 58) 1 (take n body))) where
-  body-put : first ≡ sets (set reply 0 58) 1 (text (take n body))
-  body-put = text-put (set reply 0 58) 1 (take n body) r first e (simp length-set (omega (arith, length-take-le n body h)))
+-- the text of the body and that of its LRC x, between the colon and the end of the line
+module _ (reply body : List ℕ) (n : ℕ) (h : n ≤ length body) (k : 2 * n + 5 ≤ length reply) (x : ℕ) (first : List ℕ)
+    (e : x ≡ lrc (take n body)) (f : first ≡ sets (set reply 0 58) 1 (text (take n body))) where
+  pub body-kept : length first ≡ length reply
+  body-kept = ap length f ∙ length-sets (set reply 0 58) 1 (text (take n body)) ∙ length-set reply 0 58
 
-  body-kept : length first ≡ length reply
-  body-kept = ap length body-put ∙ length-sets (set reply 0 58) 1 (text (take n body)) ∙ length-set reply 0 58
-
-  module _ (x : ℕ) (r′ : Bool) (after : List ℕ) (f : _≡_ {A = Bool × List ℕ} (r′, after) (putText first (2 * n + 1) (x ∷ []))) where
-    check-put : after ≡ sets first (2 * n + 1) (text (x ∷ []))
-    check-put = text-put first (2 * n + 1) (x ∷ []) r′ after f (omega (arith, body-kept))
-
-    pub check-kept : length after ≡ length reply
-    check-kept = ap length check-put ∙ length-sets first (2 * n + 1) (text (x ∷ [])) ∙ body-kept
-
-    pub ascii-laid : x ≡ lrc (take n body)
-        → _≡_ {A = ℕ × List ℕ} (2 * n + 5, set (set after (2 * n + 3) 13) (2 * n + 4) 10) (laid reply (wrap Ascii [] (take n body)))
-    ascii-laid q =
-        let b = take n body in
-        let s = set reply 0 58 in
-        let m = length-take-le n body h in
-        let i : 1 + length (text b) ≡ 2 * n + 1 = omega (arith, length-text b) in
-        let j : 1 + length (text b ++ text (x ∷ [])) ≡ 2 * n + 3 = simp (length-append, length-text) (omega arith) in
-        let z : 2 * n + 4 ≡ suc (2 * n + 3) = omega arith in
-        laid-all reply (wrap Ascii [] b) (2 * n + 5) _ (sym (length-around Ascii [] body n refl h)) k
-        (rw (z, check-put, body-put)
-        (sym (ap (λ (v : ℕ). sets s 1 (text (b ++ (v ∷ [])) ++ (13 ∷ 10 ∷ []))) (sym q)
-        ∙ ap (λ (l : List ℕ). sets s 1 (l ++ (13 ∷ 10 ∷ []))) (text-append b (x ∷ []))
-        ∙ sets-append (text b ++ text (x ∷ [])) (13 ∷ 10 ∷ []) s 1 (2 * n + 3) j
-        ∙ ap (λ (l : List ℕ). sets l (2 * n + 3) (13 ∷ 10 ∷ [])) (sets-append (text b) (text (x ∷ [])) s 1 (2 * n + 1) i))))
+  pub ascii-laid : (u v : ℕ) → u ≡ digit (x / 16 % 16) → v ≡ digit (x % 16)
+      → _≡_ {A = ℕ × List ℕ}
+      (2 * n + 5, set (set (set (set first (2 * n + 1) u) (2 * n + 2) v) (2 * n + 3) 13) (2 * n + 4) 10)
+      (laid reply (wrap Ascii [] (take n body)))
+  unfolding text
+  ascii-laid u v p q =
+      let b = take n body in
+      let s = set reply 0 58 in
+      let m = length-take-le n body h in
+      let y : x / 16 % 16 ≡ x / 16 = omega (arith, lrc-lt b) in
+      let w : text (x ∷ []) ≡ u ∷ v ∷ [] = rw (p, q, y) in
+      let i : 1 + length (text b) ≡ 2 * n + 1 = omega (arith, length-text b) in
+      let z₂ : 2 * n + 2 ≡ suc (2 * n + 1) = omega arith in
+      let z₃ : 2 * n + 3 ≡ suc (suc (2 * n + 1)) = omega arith in
+      let z₄ : 2 * n + 4 ≡ suc (suc (suc (2 * n + 1))) = omega arith in
+      laid-all reply (wrap Ascii [] b) (2 * n + 5) _ (sym (length-around Ascii [] body n refl h)) k
+      (rw (z₂, z₃, z₄, f)
+      (sym (ap (λ (c : ℕ). sets s 1 (text (b ++ (c ∷ [])) ++ crlf)) (sym e)
+      ∙ ap (λ (l : List ℕ). sets s 1 (l ++ crlf)) (text-append b (x ∷ []) ∙ ap (λ (l : List ℕ). text b ++ l) w)
+      ∙ ap (sets s 1) (append-assoc (text b) (u ∷ v ∷ []) crlf)
+      ∙ sets-append (text b) (u ∷ v ∷ crlf) s 1 (2 * n + 1) i)))

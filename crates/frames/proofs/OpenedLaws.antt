@@ -1,14 +1,14 @@
 -- What a frame holds by its shape and its check, and what the answer of an opening tells.
 -- Assumes nothing.
 use mathlib.Core.Logic.{by-cases}
-use mathlib.Core.Path.{_≡_, refl, sym, ap, ap₂, _∙_}
+use mathlib.Core.Path.{_≡_, refl, sym, ap, _∙_}
 use mathlib.Core.Bool.{Bool, true, false}
 use mathlib.Core.List.{List, [], _∷_}
 use Prim.Native.Nat.{ℕ, suc, _+_, _-_, _*_, _/_, _%_, _≤_}
 use native.Mathlib.Omega.{arith}
 use native.Mathlib.Numerals.{add-one}
 use lib.ListN.{length, take, drop, getD, length-take, length-drop, drop-of-length-le}
-use lib.Seq.{sets, sets-eq, length-sets, drop-cons, take-at, take-take, length-take-le}
+use lib.Seq.{sets, sets-eq, length-sets, drop-cons, take-at, length-take-le}
 use Rattle.modbus.specs.Step.{Step, stop, go, choose, _≤?_, _≟_, _and?_}
 use Rattle.modbus.specs.Bytes.{wordAt}
 use Rattle.modbus.specs.Paper.{told, bytePaper}
@@ -21,15 +21,18 @@ use Rattle.modbus.specs.declared.ByteAnswer.{ByteAnswer}
 use Rattle.modbus.specs.declared.ByteAnswer.the-variants as byte
 use Rattle.modbus.specs.declared.ModbusProto.{ModbusProto}
 use Rattle.modbus.specs.declared.ModbusProto.the-variants.{Rtu, Ascii, TcpUdp}
-use Rattle.modbus.proofs.StepLaws.{pass, fail, follow, halt, needed, bound, tested, pick-yes, pick-no, picked}
+use Rattle.modbus.proofs.StepLaws.{pass, fail, follow, halt, needed, bound, tested, pick-yes, picked}
 use Rattle.modbus.proofs.HexLaws.{length-text, text-untext}
 use Rattle.modbus.proofs.PaperLaws.{byte-value, byte-refusal}
 use Rattle.ascii.specs.Reading.{finished, refused, Decoded, decode, parsed, counted, parsedInto}
-use Rattle.frames.specs.Opened.{opened, Lined, lined?, openedText}
+use Rattle.ascii.specs.Plain.{values}
+use Rattle.frames.specs.Opened.{opened, Fronted, Lined, lined?}
 use Rattle.frames.specs.Checked.{checked}
+use Rattle.frames.specs.Short.{Short}
 use Rattle.frames.specs.declared.Opened.{Opened}
 use Rattle.frames.specs.declared.Opened.the-variants.{Body, Broken, Check}
-use Rattle.ascii.proofs.PlainLaws.{decode-untext}
+use Rattle.ascii.proofs.PlainLaws.{decode-untext, untext-values}
+use Rattle.frames.proofs.CheckedLaws.{checked-front}
 use Rattle.frames.proofs.TextLaws.{untext-decode, counted-go, counted-stop}
 
 -- the last two bytes
@@ -165,12 +168,22 @@ module _ (f : List ℕ) (r : Bool) (e : r ≡ choose (lined? f) false true) wher
   pub is-lined : r ≡ false → Lined f
   is-lined q = picked _ _ _ (sym e ∙ q) (λ p _. p) (λ _ z. let n : _≡_ {A = ℕ} 0 1 = cc in absurd (omega arith))
 
-pub text-unlined : (f raw : List ℕ) → ¬ Lined f → _≡_ {A = Opened × List ℕ} (Broken, raw) (openedText f raw)
-text-unlined f raw h =
-    ap₂ (λ (x : Opened) (b : List ℕ). (x, b)) (sym (ap opened (ascii-unlined f h))) (sym (pick-no (lined? f) _ _ h))
+-- o is the answer for a line, and its body stands at the front of `raw`
+abbrev pub Told : List ℕ → Opened → List ℕ → Type 0
+Told f o raw = (o ≡ opened (unwrap Ascii f)) × Fronted (unwrap Ascii f) raw
+
+told-stop : (f raw : List ℕ) → unwrap Ascii f ≡ stop frameBroken → Told f Broken raw
+told-stop f raw e = rw e (refl, tt)
+
+told-checked : (f raw : List ℕ) (n : ℕ) (o : Opened) → 1 ≤ n → n ≤ length raw → unwrap Ascii f ≡ checked (take n raw)
+    → o ≡ opened (checked (take n raw)) → Told f o raw
+told-checked f raw n o low high e p = rw e (p, checked-front raw n low high)
+
+pub text-unlined : (f raw : List ℕ) → ¬ Lined f → Told f Broken raw
+text-unlined f raw h = told-stop f raw (ascii-unlined f h)
 
 -- what was decoded stands at the front
-front : (l buf : List ℕ) (n : ℕ) → length l ≡ n → n ≤ length buf → take n (sets buf 0 l) ≡ l
+pub front : (l buf : List ℕ) (n : ℕ) → length l ≡ n → n ≤ length buf → take n (sets buf 0 l) ≡ l
 front l buf n e h = rw (sets-eq l buf 0 (omega arith)) (take-at l (drop (0 + length l) buf) n e)
 
 -- r was answered for the text of a line, which left `after`
@@ -182,27 +195,34 @@ module _ (f raw after : List ℕ) (r : ByteAnswer) (h : Lined f) (fits : 254 ≤
   left : after ≡ sets raw 0 (reading f (length raw) .bytes)
   left = ap (λ (p : (ℕ × ℕ) × List ℕ). p .1) e
 
-  answered : (o : Opened) (s : Step Silent Message) → o ≡ opened s → unwrap Ascii f ≡ s
-      → _≡_ {A = Opened × List ℕ} (o, after) (openedText f raw)
-  answered o s p q =
-      ap₂ (λ (x : Opened) (b : List ℕ). (x, b)) (p ∙ sym (ap opened q)) (left ∙ sym (pick-yes (lined? f) _ _ h))
+  pub text-kept : length after ≡ length raw
+  text-kept = ap length left ∙ length-sets raw 0 (reading f (length raw) .bytes)
 
-  pub text-refused : (k : ErrorKind) → r ≡ byte.Refused k → _≡_ {A = Opened × List ℕ} (Broken, after) (openedText f raw)
-  text-refused k q = answered Broken (stop frameBroken) refl (ascii-refused f (length raw) h fits k (byte-refusal r _ k paper q))
+  pub text-refused : (k : ErrorKind) → r ≡ byte.Refused k → Told f Broken after
+  text-refused k q = told-stop f after (ascii-refused f (length raw) h fits k (byte-refusal r _ k paper q))
 
   module _ (n : ℕ) (q : r ≡ byte.Value n) where
-    pub text-cut : ¬ (2 * n + 3 ≡ length f) → _≡_ {A = Opened × List ℕ} (Broken, after) (openedText f raw)
-    text-cut j = answered Broken (stop frameBroken) refl (ascii-cut f (length raw) h fits n (byte-value r _ n paper q) j)
+    pub text-cut : ¬ (2 * n + 3 ≡ length f) → Told f Broken after
+    text-cut j = told-stop f after (ascii-cut f (length raw) h fits n (byte-value r _ n paper q) j)
 
     pub text-within : 2 * n + 3 ≡ length f → (1 ≤ n) × (n ≤ length after)
-    text-within j = let k = ap length left ∙ length-sets raw 0 (reading f (length raw) .bytes) in (omega arith, omega arith)
+    text-within j = (omega arith, omega (arith, text-kept))
 
-    pub text-read : 2 * n + 3 ≡ length f → (o : Opened) → o ≡ opened (checked (take n after))
-        → _≡_ {A = Opened × List ℕ} (o, after) (openedText f raw)
+    pub text-read : 2 * n + 3 ≡ length f → (o : Opened) → o ≡ opened (checked (take n after)) → Told f o after
     text-read j o p =
         let (m, u) = ascii-read f (length raw) h fits n (byte-value r _ n paper q) j in
         let t = ap (take n) left ∙ front (reading f (length raw) .bytes) raw n m (omega arith) in
-        answered o (checked (reading f (length raw) .bytes)) (p ∙ ap (λ (l : List ℕ). opened (checked l)) t) u
+        let w = text-within j in
+        told-checked f after n o (w .0) (w .1) (u ∙ ap checked (sym t)) p
+
+-- a line of seven bytes was decoded to the front of `after`
+pub short-read : (f after : List ℕ) (o : Opened) → Lined f → Short f → take 7 after ≡ values (drop 1 (take 15 f)) → 7 ≤ length after
+    → o ≡ opened (checked (take 7 after)) → Told f o after
+short-read f after o h (n, d) e k p =
+    let z : length f - 2 ≡ 15 = omega arith in
+    let u = ap (λ (m : ℕ). untext (drop 1 (take m f))) z
+    ∙ untext-values 7 (drop 1 (take 15 f)) (simp (length-drop, length-take) (omega arith)) d in
+    told-checked f after 7 o (omega arith) k (ascii-digits f h _ u ∙ ap checked (sym e)) p
 
 -- ---- what the answer tells
 
@@ -280,19 +300,27 @@ unfolding orBroken
 or-broken (go x) l e = let z : x ≡ l = cc in ap go z
 or-broken (stop k) l e = let z : _≡_ {A = ℕ} 0 1 = cc in absurd (omega arith)
 
-pub text-told : (f raw : List ℕ) (n : ℕ) → length raw ≡ 256 → openedText f raw .0 ≡ Body n
-    → (2 ≤ n) × (n ≤ 253) × (unwrap Ascii f ≡ go (record { tag = []; body = take n (openedText f raw .1) }))
+pub text-told : (f raw : List ℕ) (n : ℕ) → length raw ≡ 256 → Told f (Body n) raw
+    → (2 ≤ n) × (n ≤ 253) × (unwrap Ascii f ≡ go (record { tag = []; body = take n raw }))
 unfolding unwrap orBroken
-text-told f raw n g q =
-    told-body Ascii f n q λ m e k.
+text-told f raw n g (q, w) =
+    told-body Ascii f n (sym q) λ m e k.
     needed _ _ _ e λ h e₁.
     bound _ _ e₁ λ l u e₂.
     needed _ _ _ e₂ λ _ e₃.
     let r : record { tag = []; body = take (length l - 1) l } ≡ m = cc in
     let (p, j) = reading-untext f (length raw) h (omega arith) l (or-broken _ l u) in
     let i : length l - 1 ≡ n = sym (length-take-le (length l - 1) l (omega arith)) ∙ ap (λ (m : Message). length (m .body)) r ∙ k in
-    let w = pick-yes (lined? f) _ raw h ∙ ap (λ (d : Decoded). sets raw 0 (d .bytes)) p in
-    let t : take n (openedText f raw .1) ≡ take (length l - 1) l =
-    ap (take n) w ∙ sym (take-take n (length l) (sets raw 0 l) (omega arith)) ∙ ap (take n) (front l raw (length l) refl (omega arith))
-    ∙ rw i in
-    (omega arith, omega arith, e ∙ ap go (sym r) ∙ ap (λ (b : List ℕ). go (record { tag = []; body = b })) (sym t))
+    let t : take n raw ≡ m .body = ap (λ (x : ℕ). take x raw) (sym k) ∙ (rw e at w) in
+    let b : m .body ≡ take (length l - 1) l = ap (λ (m : Message). m .body) (sym r) in
+    (omega arith, omega arith, e ∙ ap go (sym r) ∙ ap (λ (b : List ℕ). go (record { tag = []; body = b })) (sym (t ∙ b)))
+
+-- two such answers are one, and what they hold is one
+pub told-same : (f : List ℕ) (o o′ : Opened) (raw raw′ : List ℕ) → Told f o raw → Told f o′ raw′
+    → (o ≡ o′) × ((n : ℕ) → o ≡ Body n → take n raw ≡ take n raw′)
+told-same f o o′ raw raw′ (p, w) (p′, w′) = (
+  p ∙ sym p′,
+  λ n q.
+      told-body Ascii f n (sym p ∙ q) λ m e k.
+      ap (λ (x : ℕ). take x raw) (sym k) ∙ (rw e at w) ∙ sym (rw e at w′) ∙ ap (λ (x : ℕ). take x raw′) k,
+)

@@ -3,12 +3,10 @@
 use mathlib.Core.Path.{_≡_}
 use mathlib.Core.List.{List, [], _∷_}
 use Prim.Native.Nat.{ℕ, _-_, _≤_}
-use lib.ListN.{length, drop, getD}
+use lib.ListN.{length, take, drop, getD}
 use lib.Seq.{sets}
 use Rattle.modbus.specs.Step.{Step, stop, go, choose, _≤?_, _≟_, _and?_, same?}
-use Rattle.modbus.specs.Decode.{Message, Silent, readIgnored, foreign, frameBroken, frameCheck, wrongLength, badFunction, noRoom, badSetup, unwrap}
-use Rattle.modbus.specs.declared.ModbusProto.the-variants.{Ascii}
-use Rattle.ascii.specs.Reading.{parsed}
+use Rattle.modbus.specs.Decode.{Message, Silent, readIgnored, foreign, frameBroken, frameCheck, wrongLength, badFunction, noRoom, badSetup}
 use Rattle.frames.specs.declared.Opened.{Opened}
 use Rattle.frames.specs.declared.Opened.the-variants.{Body, Broken, Check}
 
@@ -24,19 +22,17 @@ opened (stop badFunction) = Broken
 opened (stop noRoom) = Broken
 opened (stop badSetup) = Broken
 
+-- the body of a message stands at the front of `raw`; where there is none, anything may
+abbrev pub Fronted : Step Silent Message → List ℕ → Type 0
+Fronted (go m) raw = take (length (m .body)) raw ≡ m .body
+Fronted (stop o) raw = Unit {0}
+
 -- a colon, CR and LF around a text of a length within the bounds
 abbrev pub Lined : List ℕ → Type 0
 Lined f = (9 ≤ length f) × ((length f ≤ 511) × ((getD f 0 0 ≡ 58) × (drop (length f - 2) f ≡ 13 ∷ 10 ∷ [])))
 
 abbrev pub lined? : (f : List ℕ) → Dec (Lined f)
 lined? f = (9 ≤? length f) and? (length f ≤? 511) and? (getD f 0 0 ≟ 58) and? same? (drop (length f - 2) f) (13 ∷ 10 ∷ [])
-
--- the text of such a line is decoded to the front of `raw`, as far as it goes
-abbrev pub openedText : List ℕ → List ℕ → Opened × List ℕ
-openedText f raw = (
-  opened (unwrap Ascii f),
-  choose (lined? f) (sets raw 0 (parsed f (length f - 2) (length raw) 0 .bytes)) raw,
-)
 
 -- bytes laid over the front of a buffer, if they fit, and how many
 abbrev pub laid : List ℕ → List ℕ → ℕ × List ℕ

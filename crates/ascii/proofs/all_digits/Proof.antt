@@ -8,7 +8,7 @@ use borrow.Author.Tests.{eqb-true}
 use lib.ListN.{take, drop}
 use Rattle.modbus.specs.Bytes.{All}
 use Rattle.ascii.specs.Plain.{Digit}
-use Rattle.ascii.proofs.PlainLaws.{others-step, others-done}
+use Rattle.ascii.proofs.PlainLaws.{other-none, others-step, others-done}
 use Rattle.ascii.proofs.all_digits.Statement.{statement}
 use Rattle.ascii.proofs.all_digits.Tie as tie
 
@@ -39,7 +39,7 @@ loop-again c =
     let l = c .before .before .before in
     let a = l .before .before .args in
     others-step (a .«data» .now) (a .end) (l .loop .i) (l .loop .others) (c .other .result) _ (l .loop .inv) (omega arith) (omega arith)
-    (c .other .ensures)
+    (other-none _ _ (c .other .ensures))
 
 returns : tie.Need-returns Inv-loop μ-loop
 returns c =

@@ -1,24 +1,30 @@
--- `ascii::other` meets its contract.
+-- `ascii::other` meets its contract: the differences are small for digits alone.
 -- Assumes nothing.
-use mathlib.Core.Logic.{inl, inr}
+use mathlib.Core.Logic.{inl, inr, ⊎-elim}
+use mathlib.Core.Path.{sym}
 use native.Mathlib.Omega.{arith}
+use borrow.Author.Needs.{needs}
+use Rattle.modbus.proofs.StepLaws.{pick-yes, pick-no}
+use Rattle.ascii.specs.Plain.{digit?}
 use Rattle.ascii.proofs.other.Statement.{statement}
 use Rattle.ascii.proofs.other.Tie as tie
 
+wrapping-sub-u8-requires : tie.Need-wrapping-sub-u8-requires
+wrapping-sub-u8-requires c κs = search needs
+
 returns : tie.Need-returns
-returns c = λ e. absurd (omega arith)
+returns c = sym (pick-yes (digit? _) _ _ (inl (omega arith, omega arith)))
+
+wrapping-sub-u8-requires-2 : tie.Need-wrapping-sub-u8-requires-2
+wrapping-sub-u8-requires-2 c κs = search needs
 
 returns-2 : tie.Need-returns-2
-returns-2 c = λ e. inl (omega arith, omega arith)
+returns-2 c = sym (pick-yes (digit? _) _ _ (inr (omega arith, omega arith)))
 
 returns-3 : tie.Need-returns-3
-returns-3 c = λ e. absurd (omega arith)
-
-returns-4 : tie.Need-returns-4
-returns-4 c = λ e. absurd (omega arith)
-
-returns-5 : tie.Need-returns-5
-returns-5 c = λ e. inr (omega arith, omega arith)
+returns-3 c = sym (pick-no (digit? _) _ _ (λ d. ⊎-elim (λ p. omega (arith, p)) (λ p. omega (arith, p)) d))
 
 pub other-spec : {M : Type 1} → statement M
-other-spec = tie.close (tie.spec returns returns-2 returns-3 returns-4 returns-5)
+other-spec =
+    tie.close
+    (tie.spec wrapping-sub-u8-requires returns wrapping-sub-u8-requires-2 returns-2 returns-3)

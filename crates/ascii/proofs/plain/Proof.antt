@@ -1,16 +1,10 @@
 -- `ascii::plain` meets its contract.
 -- Assumes nothing.
-use mathlib.Core.Bool.{true, false}
-use mathlib.Core.Path.{_≡_}
-use Prim.Native.Nat.{ℕ}
 use native.Mathlib.Omega.{arith}
 use borrow.Author.Needs.{needs}
-use Rattle.ascii.proofs.PlainLaws.{begin-small, plain-by}
+use Rattle.ascii.proofs.PlainLaws.{never, begin-small, plain-by}
 use Rattle.ascii.proofs.plain.Statement.{statement}
 use Rattle.ascii.proofs.plain.Tie as tie
-
-never : {P : Type 0} → false ≡ true → P
-never e = let z : _≡_ {A = ℕ} 0 1 = cc in absurd (omega arith)
 
 returns : tie.Need-returns
 returns c = never

@@ -2,7 +2,7 @@
 -- Assumes nothing.
 use mathlib.Core.Path.{_∙_}
 use Rattle.driver.proofs.SetupLaws.{proto-tcp}
-use Rattle.driver.proofs.FramedLaws.{rtu-unframed, tcp-unframed, text-kept, text-unframed}
+use Rattle.driver.proofs.FramedLaws.{rtu-unframed, tcp-unframed, text-unframed}
 use borrow.Author.Needs.{needs}
 use Rattle.driver.proofs.unframe.Statement.{statement}
 use Rattle.driver.proofs.unframe.Tie as tie
@@ -19,11 +19,9 @@ open-ascii-requires c κs = search needs
 returns-2 : tie.Need-returns-2
 returns-2 c =
     let s = c .before .before .before .before .before in
-    let a = s .args in
-    let e = c .open-ascii .ensures in (
-      rw (c .before .before .if2 .taken) (text-unframed (a .frame .now) (a .raw .now) _ _ (s .pre) e),
-      text-kept (a .frame .now) (a .raw .now) _ _ e ∙ s .pre,
-    )
+    let (o, (w, n)) = c .open-ascii .ensures in
+    let g = n ∙ s .pre in
+    (rw (c .before .before .if2 .taken) (text-unframed (s .args .frame .now) _ _ g (o, w)), g)
 
 open-tcp-requires : tie.Need-open-tcp-requires
 open-tcp-requires c κs = search needs

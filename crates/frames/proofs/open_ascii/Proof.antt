@@ -1,8 +1,9 @@
 -- `frames::open_ascii` meets its contract: each way out is a law of a line that is read.
 -- Assumes nothing.
+use mathlib.Core.Path.{refl}
 use native.Mathlib.Omega.{arith}
 use borrow.Author.Needs.{needs}
-use Rattle.frames.proofs.OpenedLaws.{not-lined, is-lined, text-unlined, text-refused, text-cut, text-within, text-read}
+use Rattle.frames.proofs.OpenedLaws.{not-lined, is-lined, text-unlined, text-kept, text-refused, text-cut, text-within, text-read, short-read}
 use Rattle.frames.proofs.open_ascii.Statement.{statement}
 use Rattle.frames.proofs.open_ascii.Tie as tie
 
@@ -11,12 +12,38 @@ unlined-requires c κs = search needs
 
 returns : tie.Need-returns
 returns c =
-    let a = c .before .before .before .args in
-    text-unlined (a .frame .now) _ (not-lined (a .frame .now) _ (c .before .unlined .ensures) (c .if1 .taken))
+    let s = c .before .before .before in
+    let t = text-unlined (s .args .frame .now) _ (not-lined (s .args .frame .now) _ (c .before .unlined .ensures) (c .if1 .taken)) in
+    (t .0, (t .1, refl))
+
+is-short-requires : tie.Need-is-short-requires
+is-short-requires c κs = search needs
+
+decode-eight-requires : tie.Need-decode-eight-requires
+decode-eight-requires c κs =
+    let i = c .before .before in
+    let s = i .before .before .before .before in
+    (i .is-short .ensures (c .before .if2 .taken), omega (arith, s .good))
+
+check-lrc-requires : tie.Need-check-lrc-requires
+check-lrc-requires c κs = search needs
+
+returns-2 : tie.Need-returns-2
+returns-2 c =
+    let d = c .before .before .before in
+    let i = d .before .before .before in
+    let u = i .before .before in
+    let s = u .before .before in
+    let f = s .args .frame .now in
+    let h = is-lined f _ (u .unlined .ensures) (i .before .if1 .left) in
+    let (e, n) = d .decode-eight .ensures in
+    let t = short-read f (d .decode-eight .last .1 .0) _ h (i .is-short .ensures (d .before .before .if2 .taken)) e (omega (arith, s .good)) (c .check-lrc .ensures) in
+    (t .0, (t .1, n))
 
 sub-parse-ascii-frame : tie.Need-sub-parse-ascii-frame
 sub-parse-ascii-frame c =
-    let h = is-lined (c .before .before .before .args .frame .now) _ (c .before .unlined .ensures) (c .if1 .left) in omega arith
+    let u = c .before .before .before in
+    let h = is-lined (u .before .before .args .frame .now) _ (u .unlined .ensures) (c .before .before .if1 .left) in omega arith
 
 parse-ascii-frame-requires : tie.Need-parse-ascii-frame-requires
 parse-ascii-frame-requires c κs = search needs
@@ -27,50 +54,61 @@ enum-told c = search needs
 enum-known-n : tie.Need-enum-known-n
 enum-known-n c = search needs
 
-cast-if2 : tie.Need-cast-if2
-cast-if2 c = search needs
+cast-if3 : tie.Need-cast-if3
+cast-if3 c = search needs
 
-mul-if2 : tie.Need-mul-if2
-mul-if2 c = search needs
+mul-if3 : tie.Need-mul-if3
+mul-if3 c = search needs
 
-add-if2 : tie.Need-add-if2
-add-if2 c = search needs
-
-returns-2 : tie.Need-returns-2
-returns-2 c =
-    let p = c .before .before .before .before in
-    let u = p .before .before in
-    let a = u .before .before .before .args in
-    let h = is-lined (a .frame .now) _ (u .before .unlined .ensures) (u .if1 .left) in
-    text-cut (a .frame .now) (a .raw .now) _ _ h (omega (arith, u .before .before .before .good)) (p .parse-ascii-frame .ensures) _
-    (c .before .before .n .given .1) (c .if2 .taken)
-
-check-lrc-requires : tie.Need-check-lrc-requires
-check-lrc-requires c κs =
-    let p = c .before .before .before .before .before .before in
-    let u = p .before .before in
-    let a = u .before .before .before .args in
-    let h = is-lined (a .frame .now) _ (u .before .unlined .ensures) (u .if1 .left) in
-    text-within (a .frame .now) (a .raw .now) _ _ h (omega (arith, u .before .before .before .good)) (p .parse-ascii-frame .ensures) _
-    (c .before .before .before .before .n .given .1) (c .before .before .if2 .left)
+add-if3 : tie.Need-add-if3
+add-if3 c = search needs
 
 returns-3 : tie.Need-returns-3
 returns-3 c =
-    let p = c .before .before in
-    let u = p .before .before in
-    let a = u .before .before .before .args in
-    let h = is-lined (a .frame .now) _ (u .before .unlined .ensures) (u .if1 .left) in
-    text-refused (a .frame .now) (a .raw .now) _ _ h (omega (arith, u .before .before .before .good)) (p .parse-ascii-frame .ensures) _
-    (c .enum-told .given .1)
+    let p = c .before .before .before .before in
+    let u = p .before .before .before .before .before in
+    let s = u .before .before in
+    let f = s .args .frame .now in
+    let raw = s .args .raw .now in
+    let h = is-lined f _ (u .unlined .ensures) (p .before .before .before .before .if1 .left) in
+    let e = p .parse-ascii-frame .ensures in
+    let t = text-cut f raw _ _ h (omega (arith, s .good)) e _ (c .before .before .n .given .1) (c .if3 .taken) in
+    (t .0, (t .1, text-kept f raw _ (p .parse-ascii-frame .result) h (omega (arith, s .good)) e))
+
+check-lrc-requires-2 : tie.Need-check-lrc-requires-2
+check-lrc-requires-2 c κs =
+    let p = c .before .before .before .before .before .before in
+    let u = p .before .before .before .before .before in
+    let s = u .before .before in
+    let f = s .args .frame .now in
+    let h = is-lined f _ (u .unlined .ensures) (p .before .before .before .before .if1 .left) in
+    text-within f (s .args .raw .now) _ _ h (omega (arith, s .good)) (p .parse-ascii-frame .ensures) _
+    (c .before .before .before .before .n .given .1) (c .before .before .if3 .left)
 
 returns-4 : tie.Need-returns-4
 returns-4 c =
+    let p = c .before .before in
+    let u = p .before .before .before .before .before in
+    let s = u .before .before in
+    let f = s .args .frame .now in
+    let raw = s .args .raw .now in
+    let h = is-lined f _ (u .unlined .ensures) (p .before .before .before .before .if1 .left) in
+    let e = p .parse-ascii-frame .ensures in
+    let t = text-refused f raw _ _ h (omega (arith, s .good)) e _ (c .enum-told .given .1) in
+    (t .0, (t .1, text-kept f raw _ (p .parse-ascii-frame .result) h (omega (arith, s .good)) e))
+
+returns-5 : tie.Need-returns-5
+returns-5 c =
     let p = c .before .before .before .before .before .before .before in
-    let u = p .before .before in
-    let a = u .before .before .before .args in
-    let h = is-lined (a .frame .now) _ (u .before .unlined .ensures) (u .if1 .left) in
-    text-read (a .frame .now) (a .raw .now) _ _ h (omega (arith, u .before .before .before .good)) (p .parse-ascii-frame .ensures) _
-    (c .before .before .before .before .before .n .given .1) (c .before .before .before .if2 .left) _ (c .check-lrc .ensures)
+    let u = p .before .before .before .before .before in
+    let s = u .before .before in
+    let f = s .args .frame .now in
+    let raw = s .args .raw .now in
+    let h = is-lined f _ (u .unlined .ensures) (p .before .before .before .before .if1 .left) in
+    let e = p .parse-ascii-frame .ensures in
+    let t = text-read f raw _ _ h (omega (arith, s .good)) e _ (c .before .before .before .before .before .n .given .1)
+    (c .before .before .before .if3 .left) _ (c .check-lrc2 .ensures) in
+    (t .0, (t .1, text-kept f raw _ (p .parse-ascii-frame .result) h (omega (arith, s .good)) e))
 
 pub open-ascii-spec : {M : Type 1} → statement M
 open-ascii-spec =
@@ -78,14 +116,18 @@ open-ascii-spec =
     (tie.spec
     unlined-requires
     returns
+    is-short-requires
+    decode-eight-requires
+    check-lrc-requires
+    returns-2
     sub-parse-ascii-frame
     parse-ascii-frame-requires
     enum-told
     enum-known-n
-    cast-if2
-    mul-if2
-    add-if2
-    returns-2
-    check-lrc-requires
+    cast-if3
+    mul-if3
+    add-if3
     returns-3
-    returns-4)
+    check-lrc-requires-2
+    returns-4
+    returns-5)

@@ -8,8 +8,7 @@ use lib.ListN.{take, length-set}
 use lib.Seq.{length-take-le}
 use Rattle.modbus.specs.Frame.{wrap}
 use Rattle.modbus.specs.declared.ModbusProto.the-variants.{Ascii}
-use Rattle.checks.proofs.WithinLaws.{lrc-value, lrc-never}
-use Rattle.frames.proofs.LaidLaws.{laid-none, length-around, check-kept, ascii-laid}
+use Rattle.frames.proofs.LaidLaws.{laid-none, length-around, body-kept, ascii-laid}
 use Rattle.frames.proofs.seal_ascii.Statement.{statement}
 use Rattle.frames.proofs.seal_ascii.Tie as tie
 
@@ -25,37 +24,22 @@ returns c =
     let k = length-around Ascii [] (a .body .now) (a .n) refl (omega arith) in
     laid-none (a .reply .now) (wrap Ascii [] (take (a .n) (a .body .now))) (omega arith)
 
-calc-lrc-requires : tie.Need-calc-lrc-requires
-calc-lrc-requires c κs = search needs
-
-enum-told : tie.Need-enum-told
-enum-told c = search needs
-
-enum-known-lrc : tie.Need-enum-known-lrc
-enum-known-lrc c = search needs
-
 slice-write-reply : tie.Need-slice-write-reply
 slice-write-reply c = search needs
 
-slice-aggregate-put-text : tie.Need-slice-aggregate-put-text
-slice-aggregate-put-text c =
-    let a = c .before .before .before .before .before .before .before .before .before .args in
+slice-aggregate-lay-summed : tie.Need-slice-aggregate-lay-summed
+slice-aggregate-lay-summed c =
+    let a = c .before .before .before .before .before .args in
     sym (length-take-le (a .n) (a .body .now) (omega arith))
 
-put-text-requires : tie.Need-put-text-requires
-put-text-requires c κs = search needs
+lay-summed-requires : tie.Need-lay-summed-requires
+lay-summed-requires c κs =
+    let a = c .before .before .before .before .before .args in
+    let m = length-take-le (a .n) (a .body .now) (omega arith) in
+    (simp length-set (omega (arith, m)), omega (arith, m))
 
-mul-put-text : tie.Need-mul-put-text
-mul-put-text c = search needs
-
-add-put-text : tie.Need-add-put-text
-add-put-text c = search needs
-
-slice-aggregate-put-text-2 : tie.Need-slice-aggregate-put-text-2
-slice-aggregate-put-text-2 c = search needs
-
-put-text-requires-2 : tie.Need-put-text-requires-2
-put-text-requires-2 c κs = search needs
+low-digit-requires : tie.Need-low-digit-requires
+low-digit-requires c κs = search needs
 
 mul-reply : tie.Need-mul-reply
 mul-reply c = search needs
@@ -65,11 +49,12 @@ add-reply c = search needs
 
 slice-write-reply-2 : tie.Need-slice-write-reply-2
 slice-write-reply-2 c =
-    let p = c .before .before in
-    let q = p .before .before .before .before .before in
-    let m = q .before .before .before .before .before .before in
-    let a = m .before .before .before .before .args in
-    omega (arith, check-kept (a .reply .now) (a .body .now) (a .n) (omega arith) (omega arith) _ _ (q .put-text .ensures) _ _ _ (p .put-text2 .ensures))
+    let l = c .before .before .before in
+    let a = l .before .before .before .before .before .before .args in
+    omega (arith, body-kept (a .reply .now) (a .body .now) (a .n) (omega arith) (omega arith) _ _ (l .lay-summed .ensures .0) (l .lay-summed .ensures .1))
+
+low-digit-requires-2 : tie.Need-low-digit-requires-2
+low-digit-requires-2 c κs = search needs
 
 mul-reply-2 : tie.Need-mul-reply-2
 mul-reply-2 c = search needs
@@ -79,11 +64,33 @@ add-reply-2 c = search needs
 
 slice-write-reply-3 : tie.Need-slice-write-reply-3
 slice-write-reply-3 c =
-    let p = c .before .before in
-    let q = p .before .before .before .before .before in
-    let m = q .before .before .before .before .before .before in
-    let a = m .before .before .before .before .args in
-    simp length-set (omega (arith, check-kept (a .reply .now) (a .body .now) (a .n) (omega arith) (omega arith) _ _ (q .put-text .ensures) _ _ _ (p .put-text2 .ensures)))
+    let l = c .before .before .before .before in
+    let a = l .before .before .before .before .before .before .args in
+    simp length-set (omega (arith, body-kept (a .reply .now) (a .body .now) (a .n) (omega arith) (omega arith) _ _ (l .lay-summed .ensures .0) (l .lay-summed .ensures .1)))
+
+mul-reply-3 : tie.Need-mul-reply-3
+mul-reply-3 c = search needs
+
+add-reply-3 : tie.Need-add-reply-3
+add-reply-3 c = search needs
+
+slice-write-reply-4 : tie.Need-slice-write-reply-4
+slice-write-reply-4 c =
+    let l = c .before .before .before .before in
+    let a = l .before .before .before .before .before .before .args in
+    simp length-set (omega (arith, body-kept (a .reply .now) (a .body .now) (a .n) (omega arith) (omega arith) _ _ (l .lay-summed .ensures .0) (l .lay-summed .ensures .1)))
+
+mul-reply-4 : tie.Need-mul-reply-4
+mul-reply-4 c = search needs
+
+add-reply-4 : tie.Need-add-reply-4
+add-reply-4 c = search needs
+
+slice-write-reply-5 : tie.Need-slice-write-reply-5
+slice-write-reply-5 c =
+    let l = c .before .before .before .before in
+    let a = l .before .before .before .before .before .before .args in
+    simp length-set (omega (arith, body-kept (a .reply .now) (a .body .now) (a .n) (omega arith) (omega arith) _ _ (l .lay-summed .ensures .0) (l .lay-summed .ensures .1)))
 
 mul-result : tie.Need-mul-result
 mul-result c = search needs
@@ -91,28 +98,18 @@ mul-result c = search needs
 add-result : tie.Need-add-result
 add-result c = search needs
 
-returns-2 : tie.Need-returns-2
-returns-2 c =
-    let m = c .before .before in
-    let a = m .before .before .before .before .args in
-    absurd (lrc-never _ (a .body .now) (a .n) (omega arith) (m .calc-lrc .ensures) _ (c .enum-told .given .1))
-
 same-length : tie.Need-same-length
 same-length c =
-    let p = c .before .before in
-    let q = p .before .before .before .before .before in
-    let m = q .before .before .before .before .before .before in
-    let a = m .before .before .before .before .args in
-    simp length-set (check-kept (a .reply .now) (a .body .now) (a .n) (omega arith) (omega arith) _ _ (q .put-text .ensures) _ _ _ (p .put-text2 .ensures))
+    let l = c .before .before .before .before in
+    let a = l .before .before .before .before .before .before .args in
+    simp length-set (body-kept (a .reply .now) (a .body .now) (a .n) (omega arith) (omega arith) _ _ (l .lay-summed .ensures .0) (l .lay-summed .ensures .1))
 
-returns-3 : tie.Need-returns-3
-returns-3 c =
-    let p = c .before .before in
-    let q = p .before .before .before .before .before in
-    let m = q .before .before .before .before .before .before in
-    let a = m .before .before .before .before .args in
-    let e = lrc-value _ (a .body .now) (a .n) (omega arith) (m .calc-lrc .ensures) _ (q .before .before .before .before .lrc .given .1) in
-    ascii-laid (a .reply .now) (a .body .now) (a .n) (omega arith) (omega arith) _ _ (q .put-text .ensures) _ _ _ (p .put-text2 .ensures) e
+returns-2 : tie.Need-returns-2
+returns-2 c =
+    let l = c .before .before .before .before in
+    let a = l .before .before .before .before .before .before .args in
+    ascii-laid (a .reply .now) (a .body .now) (a .n) (omega arith) (omega arith) _ _ (l .lay-summed .ensures .0) (l .lay-summed .ensures .1) _ _
+    (c .before .low-digit .ensures) (c .low-digit2 .ensures)
 
 pub seal-ascii-spec : {M : Type 1} → statement M
 seal-ascii-spec =
@@ -121,24 +118,24 @@ seal-ascii-spec =
     mul-if1
     add-if1
     returns
-    calc-lrc-requires
-    enum-told
-    enum-known-lrc
     slice-write-reply
-    slice-aggregate-put-text
-    put-text-requires
-    mul-put-text
-    add-put-text
-    slice-aggregate-put-text-2
-    put-text-requires-2
+    slice-aggregate-lay-summed
+    lay-summed-requires
+    low-digit-requires
     mul-reply
     add-reply
     slice-write-reply-2
+    low-digit-requires-2
     mul-reply-2
     add-reply-2
     slice-write-reply-3
+    mul-reply-3
+    add-reply-3
+    slice-write-reply-4
+    mul-reply-4
+    add-reply-4
+    slice-write-reply-5
     mul-result
     add-result
-    returns-2
     same-length
-    returns-3)
+    returns-2)
