@@ -123,7 +123,7 @@ fn decode_pairs(data: &[u8], from: usize, n: usize, buf: &mut [u8], at: usize)
 fn plain(data: &[u8], data_len: usize, room: usize, at: usize) -> bool
     ensures { λ r. ⌜ (r ≡ true → Plain (now («data» .entry)) «data_len» room at) ⌝ }
 {
-    if data_len < 64 {
+    if data_len < 32 {
         return false;
     }
     if data.len() < data_len {

@@ -5,8 +5,8 @@ use mathlib.Core.List.{List, [], _∷_, _++_, append-assoc}
 use Prim.Native.Nat.{ℕ, suc, _+_, _*_, _/_, _%_, _<_, _≤_}
 use native.Mathlib.Omega.{arith}
 use native.Mathlib.Numerals.{add-one}
-use lib.ListN.{length, take, getD, set, length-set, length-take}
-use lib.Seq.{sets, length-sets, take-suc, length-take-le}
+use lib.ListN.{length, take, getD, set, length-take}
+use lib.Seq.{sets, take-suc, length-take-le}
 use Rattle.modbus.specs.Check.{crc, lrc}
 use Rattle.modbus.specs.Hex.{digit, text}
 use Rattle.modbus.specs.Frame.{wrap, tagLength, around}
@@ -64,9 +64,6 @@ tcp-laid high low reply body after n h k j e =
 -- the text of the body and that of its LRC x, between the colon and the end of the line
 module _ (reply body : List ℕ) (n : ℕ) (h : n ≤ length body) (k : 2 * n + 5 ≤ length reply) (x : ℕ) (first : List ℕ)
     (e : x ≡ lrc (take n body)) (f : first ≡ sets (set reply 0 58) 1 (text (take n body))) where
-  pub body-kept : length first ≡ length reply
-  body-kept = ap length f ∙ length-sets (set reply 0 58) 1 (text (take n body)) ∙ length-set reply 0 58
-
   pub ascii-laid : (u v : ℕ) → u ≡ digit (x / 16 % 16) → v ≡ digit (x % 16)
       → _≡_ {A = ℕ × List ℕ}
       (2 * n + 5, set (set (set (set first (2 * n + 1) u) (2 * n + 2) v) (2 * n + 3) 13) (2 * n + 4) 10)

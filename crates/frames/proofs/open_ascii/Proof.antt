@@ -3,7 +3,8 @@
 use mathlib.Core.Path.{refl}
 use native.Mathlib.Omega.{arith}
 use borrow.Author.Needs.{needs}
-use Rattle.frames.proofs.OpenedLaws.{not-lined, is-lined, text-unlined, text-kept, text-refused, text-cut, text-within, text-read, short-read}
+use Rattle.frames.proofs.OpenedLaws.{not-lined, is-lined, text-unlined, short-read}
+use Rattle.frames.proofs.OpenedLaws.{text-kept, text-refused, text-cut, text-within, text-read}
 use Rattle.frames.proofs.open_ascii.Statement.{statement}
 use Rattle.frames.proofs.open_ascii.Tie as tie
 
@@ -37,7 +38,8 @@ returns-2 c =
     let f = s .args .frame .now in
     let h = is-lined f _ (u .unlined .ensures) (i .before .if1 .left) in
     let (e, n) = d .decode-eight .ensures in
-    let t = short-read f (d .decode-eight .last .1 .0) _ h (i .is-short .ensures (d .before .before .if2 .taken)) e (omega (arith, s .good)) (c .check-lrc .ensures) in
+    let q = i .is-short .ensures (d .before .before .if2 .taken) in
+    let t = short-read f (d .decode-eight .last .1 .0) _ h q e (omega (arith, s .good)) (c .check-lrc .ensures) in
     (t .0, (t .1, n))
 
 sub-parse-ascii-frame : tie.Need-sub-parse-ascii-frame

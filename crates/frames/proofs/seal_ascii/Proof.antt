@@ -8,7 +8,8 @@ use lib.ListN.{take, length-set}
 use lib.Seq.{length-take-le}
 use Rattle.modbus.specs.Frame.{wrap}
 use Rattle.modbus.specs.declared.ModbusProto.the-variants.{Ascii}
-use Rattle.frames.proofs.LaidLaws.{laid-none, length-around, body-kept, ascii-laid}
+use Rattle.ascii.proofs.ReadingLaws.{text-kept}
+use Rattle.frames.proofs.LaidLaws.{laid-none, length-around, ascii-laid}
 use Rattle.frames.proofs.seal_ascii.Statement.{statement}
 use Rattle.frames.proofs.seal_ascii.Tie as tie
 
@@ -50,8 +51,7 @@ add-reply c = search needs
 slice-write-reply-2 : tie.Need-slice-write-reply-2
 slice-write-reply-2 c =
     let l = c .before .before .before in
-    let a = l .before .before .before .before .before .before .args in
-    omega (arith, body-kept (a .reply .now) (a .body .now) (a .n) (omega arith) (omega arith) _ _ (l .lay-summed .ensures .0) (l .lay-summed .ensures .1))
+    omega (arith, text-kept _ (l .before .before .before .before .before .before .args .reply .now) _ (l .lay-summed .ensures .1))
 
 low-digit-requires-2 : tie.Need-low-digit-requires-2
 low-digit-requires-2 c κs = search needs
@@ -65,8 +65,8 @@ add-reply-2 c = search needs
 slice-write-reply-3 : tie.Need-slice-write-reply-3
 slice-write-reply-3 c =
     let l = c .before .before .before .before in
-    let a = l .before .before .before .before .before .before .args in
-    simp length-set (omega (arith, body-kept (a .reply .now) (a .body .now) (a .n) (omega arith) (omega arith) _ _ (l .lay-summed .ensures .0) (l .lay-summed .ensures .1)))
+    let k = text-kept _ (l .before .before .before .before .before .before .args .reply .now) _ (l .lay-summed .ensures .1) in
+    simp length-set (omega (arith, k))
 
 mul-reply-3 : tie.Need-mul-reply-3
 mul-reply-3 c = search needs
@@ -77,8 +77,8 @@ add-reply-3 c = search needs
 slice-write-reply-4 : tie.Need-slice-write-reply-4
 slice-write-reply-4 c =
     let l = c .before .before .before .before in
-    let a = l .before .before .before .before .before .before .args in
-    simp length-set (omega (arith, body-kept (a .reply .now) (a .body .now) (a .n) (omega arith) (omega arith) _ _ (l .lay-summed .ensures .0) (l .lay-summed .ensures .1)))
+    let k = text-kept _ (l .before .before .before .before .before .before .args .reply .now) _ (l .lay-summed .ensures .1) in
+    simp length-set (omega (arith, k))
 
 mul-reply-4 : tie.Need-mul-reply-4
 mul-reply-4 c = search needs
@@ -89,8 +89,8 @@ add-reply-4 c = search needs
 slice-write-reply-5 : tie.Need-slice-write-reply-5
 slice-write-reply-5 c =
     let l = c .before .before .before .before in
-    let a = l .before .before .before .before .before .before .args in
-    simp length-set (omega (arith, body-kept (a .reply .now) (a .body .now) (a .n) (omega arith) (omega arith) _ _ (l .lay-summed .ensures .0) (l .lay-summed .ensures .1)))
+    let k = text-kept _ (l .before .before .before .before .before .before .args .reply .now) _ (l .lay-summed .ensures .1) in
+    simp length-set (omega (arith, k))
 
 mul-result : tie.Need-mul-result
 mul-result c = search needs
@@ -101,15 +101,15 @@ add-result c = search needs
 same-length : tie.Need-same-length
 same-length c =
     let l = c .before .before .before .before in
-    let a = l .before .before .before .before .before .before .args in
-    simp length-set (body-kept (a .reply .now) (a .body .now) (a .n) (omega arith) (omega arith) _ _ (l .lay-summed .ensures .0) (l .lay-summed .ensures .1))
+    simp length-set (text-kept _ (l .before .before .before .before .before .before .args .reply .now) _ (l .lay-summed .ensures .1))
 
 returns-2 : tie.Need-returns-2
 returns-2 c =
     let l = c .before .before .before .before in
     let a = l .before .before .before .before .before .before .args in
-    ascii-laid (a .reply .now) (a .body .now) (a .n) (omega arith) (omega arith) _ _ (l .lay-summed .ensures .0) (l .lay-summed .ensures .1) _ _
-    (c .before .low-digit .ensures) (c .low-digit2 .ensures)
+    let e = l .lay-summed .ensures in
+    ascii-laid (a .reply .now) (a .body .now) (a .n) (omega arith) (omega arith) _ _ (e .0) (e .1) _ _ (c .before .low-digit .ensures)
+    (c .low-digit2 .ensures)
 
 pub seal-ascii-spec : {M : Type 1} → statement M
 seal-ascii-spec =
