@@ -10,7 +10,7 @@ static const int on = 1, send_room = 16384; /* replies that a client may leave u
 int tcp_open(struct tcp *t, struct options *o) {
     struct sockaddr_in here = {.sin_family = AF_INET, .sin_port = htons((uint16_t)o->port), .sin_addr = {o->ip}};
     socklen_t len = sizeof here;
-    *t = (struct tcp){-1, NULL, 0, o->idle == 0 ? NEVER : (int64_t)o->idle * 1000, (int64_t)o->patience * 1000};
+    *t = (struct tcp){-1, NULL, 0, o->idle == 0 ? NEVER : (int64_t)o->idle * 1000, (int64_t)o->patience * 1000, 0};
     if (o->no_tcp) return 1;
     t->client = calloc(o->clients, sizeof *t->client);
     t->places = t->client == NULL ? 0 : o->clients;
@@ -28,6 +28,11 @@ int tcp_open(struct tcp *t, struct options *o) {
 }
 
 /* --- one client --------------------------------------------------------------------------------------------------- */
+
+static void note(struct tcp *t, struct client *c, int64_t now) {
+    c->since = now;
+    c->turn = ++t->turns;
+}
 
 static void dismiss(struct client *c, struct station *s, const char *why) {
     log_event(s->log, c->name, why);
@@ -58,7 +63,7 @@ static void serve_next(struct client *c, struct station *s) {
     memmove(c->in, c->in + len, c->have);
 }
 
-static void receive(struct client *c, struct station *s, int64_t now) {
+static void receive(struct tcp *t, struct client *c, struct station *s, int64_t now) {
     size_t had = c->have;
     ssize_t got = recv(c->fd, c->in + c->have, sizeof c->in - c->have, 0);
     if (got < 0 && (errno == EAGAIN || errno == EINTR)) return;
@@ -68,7 +73,7 @@ static void receive(struct client *c, struct station *s, int64_t now) {
     }
     c->ended = got == 0;
     c->have = c->deaf ? 0 : c->have + (size_t)got;
-    if (had == 0 && c->have > 0) c->since = now;
+    if (had == 0 && c->have > 0) note(t, c, now);
 }
 
 static int64_t due(const struct tcp *t, const struct client *c) {
@@ -86,7 +91,7 @@ static const char *reproach(const struct client *c) {
  * will come and has a while to take its replies: closed at once, with bytes unread, it would lose them. */
 static void answer(struct tcp *t, struct client *c, struct station *s, int64_t now) {
     ssize_t sent = outbox_send(&c->out, c->fd);
-    if (sent > 0) c->since = now;
+    if (sent > 0) note(t, c, now);
     if (sent < 0) dismiss(c, s, "lost");
     else if (now >= due(t, c)) dismiss(c, s, reproach(c));
     else if (c->ended && c->out.left == 0 && !is_ready(c)) dismiss(c, s, "gone");
@@ -105,7 +110,7 @@ static struct client *place(struct tcp *t, struct station *s) {
     for (size_t i = 0; i < t->places; i++) {
         struct client *c = &t->client[i];
         if (c->fd < 0) return c;
-        if (c->since < oldest->since) oldest = c;
+        if (c->turn < oldest->turn) oldest = c;
     }
     dismiss(oldest, s, "closed, since another came and all places were taken");
     return oldest;
@@ -120,7 +125,7 @@ static void welcome(struct tcp *t, struct station *s, int64_t now) {
     struct client *c = place(t, s);
     memset(c, 0, sizeof *c);
     c->fd = fd;
-    c->since = now;
+    note(t, c, now);
     inet_ntop(AF_INET, &from.sin_addr, address, sizeof address);
     snprintf(c->name, sizeof c->name, "tcp %s:%u", address, ntohs(from.sin_port));
     log_event(s->log, c->name, "came");
@@ -153,8 +158,8 @@ void tcp_hear(struct tcp *t, const struct pollfd *fds, struct station *s, int64_
         short events = fds[1 + i].revents;
         if (c->fd < 0) continue;
         if (events & POLLERR) dismiss(c, s, "lost");
-        else if (events & (POLLIN | POLLHUP) && !c->ended && c->have < sizeof c->in) receive(c, s, now);
-        for (; c->fd >= 0 && is_ready(c); c->since = now) serve_next(c, s);
+        else if (events & (POLLIN | POLLHUP) && !c->ended && c->have < sizeof c->in) receive(t, c, s, now);
+        for (; c->fd >= 0 && is_ready(c); note(t, c, now)) serve_next(c, s);
     }
     if (t->listener >= 0 && fds[0].revents & POLLIN) welcome(t, s, now);
 }

@@ -21,6 +21,7 @@ struct client {
     int deaf;      /* its stream cannot be followed any more: what comes is thrown away */
     int ended;     /* it sends no more */
     int64_t since; /* the last time that a frame was served, a reply was taken, or it began to send a frame */
+    uint64_t turn; /* which of all the clients' times that was: one millisecond may have several */
 };
 
 struct tcp {
@@ -28,6 +29,7 @@ struct tcp {
     struct client *client;
     size_t places;
     int64_t idle, patience; /* in milliseconds */
+    uint64_t turns;         /* so far */
 };
 
 /* Listens, and leaves the port in `o` where any was asked for. Answers 0 after a line on standard error. */

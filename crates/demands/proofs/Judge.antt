@@ -6,14 +6,14 @@ use mathlib.Core.List.{List, [], _∷_}
 use Prim.Native.Nat.{ℕ, _≤_}
 use native.Mathlib.Omega.{arith}
 use lib.ListN.{drop}
-use Rattle.modbus.specs.Step.{Step, stop, go, _>>=_, _>>_, need, _≤?_, _and?_, _or?_, not?}
+use Rattle.modbus.specs.Step.{stop, go, _>>=_, _>>_, _and?_}
 use Rattle.modbus.specs.Bytes.{Bytes}
 use Rattle.modbus.specs.Table.{Tables}
 use Rattle.modbus.specs.Request.{Fn, code, functions, Ask, fnOf, exception}
 use Rattle.modbus.specs.Frame.{Framed}
 use Rattle.modbus.specs.Setup.{Setup, proto, Valid, Roomy}
-use Rattle.modbus.specs.Unit.{Broadcast, broadcast?, Ours, ours?}
-use Rattle.modbus.specs.Decode.{Message, unitOf, numberOf, Silent, readIgnored, foreign, frameBroken, frameCheck, wrongLength, badFunction, noRoom, badSetup, number, unwrap, IsRead, isRead?, lengthy?, valued?, asked}
+use Rattle.modbus.specs.Unit.{Broadcast, broadcast?, Ours}
+use Rattle.modbus.specs.Decode.{Message, unitOf, numberOf, Silent, readIgnored, foreign, frameBroken, frameCheck, wrongLength, badFunction, noRoom, badSetup, number, unwrap, IsRead, isRead?, asked}
 use Rattle.modbus.specs.Drive.{Fault, quiet, coded, find, fromFunction, fromUnit, judge, Result, silently, replying, settle, drive}
 use Rattle.modbus.proofs.StepLaws.{pass, fail, follow, halt, bound, needed, bound-stop, needed-stop, pick-yes, pick-no, either}
 use Rattle.modbus.proofs.RequestLaws.{asked-says, says-heard, fn-asked}

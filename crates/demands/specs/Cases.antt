@@ -1,10 +1,10 @@
 -- Document 01's cases a to l as data: unit 1, list [0]; 16 coils; holdings 0102 0304 0000 FFFF; tables afresh each time.
 -- Assumes nothing.
-use mathlib.Core.List.{List, [], _∷_, _++_, map}
+use mathlib.Core.List.{List, [], _∷_, map}
 use Prim.Native.Nat.{ℕ}
 use Rattle.modbus.specs.Bytes.{pack}
 use Rattle.modbus.specs.Check.{crc}
-use Rattle.modbus.specs.Table.{Tab, coils, discretes, holdings, inputs, Tables, Sizes, part}
+use Rattle.modbus.specs.Table.{coils, discretes, holdings, inputs, Tables, Sizes, part}
 use Rattle.modbus.specs.Storage.{coilAt, registerAt}
 use Rattle.modbus.specs.Setup.{Setup}
 use Rattle.modbus.specs.Drive.{Result, drive}

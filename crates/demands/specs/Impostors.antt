@@ -1,6 +1,6 @@
 -- A driver that meets the customer's third demand on every input, and the frames that tell the impostors of document 01 from it.
 -- Assumes nothing.
-use mathlib.Core.List.{List, [], _∷_, _++_}
+use mathlib.Core.List.{List, _∷_, _++_}
 use Prim.Native.Nat.{ℕ}
 use Rattle.modbus.specs.Bytes.{Bytes, two}
 use Rattle.modbus.specs.Table.{Tables}

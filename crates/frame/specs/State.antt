@@ -1,10 +1,10 @@
 -- The state of a frame (source 000, `ModbusFrame`), and what a call leaves. The definitions use the code's own types; their numbers stand here.
 -- Assumes nothing.
 use mathlib.Core.Bool.{Bool, true, false}
-use mathlib.Core.List.{List, [], _∷_}
+use mathlib.Core.List.{List}
 use Prim.Native.Nat.{ℕ}
 use Rattle.modbus.specs.Step.{Step, stop, go}
-use Rattle.modbus.specs.Table.{Tab, coils, discretes, holdings, inputs, bit, word}
+use Rattle.modbus.specs.Table.{coils, discretes, holdings, inputs, bit, word}
 use Rattle.modbus.specs.Request.{Fn, reads, one, many, functions}
 use Rattle.modbus.specs.Drive.{find}
 use Rattle.modbus.specs.Paper.{number, donePaper}

@@ -1,8 +1,8 @@
 -- A line of seven bytes: its digits by place, and its bytes as a loop decodes them; and the LRC byte by byte.
 -- Assumes nothing.
 use mathlib.Core.Logic.{by-cases}
-use mathlib.Core.Path.{_≡_, refl, sym, ap, subst, _∙_}
-use mathlib.Core.List.{List, []}
+use mathlib.Core.Path.{_≡_, refl, ap, subst, _∙_}
+use mathlib.Core.List.{List, [], _∷_}
 use Prim.Native.Nat.{ℕ, _+_, _*_, _-_, _%_, _<_, _≤_}
 use native.Mathlib.Omega.{arith}
 use native.Mathlib.Numerals.{add-one}
@@ -13,7 +13,7 @@ use Rattle.modbus.specs.Step.{_≤?_}
 use Rattle.modbus.specs.Bytes.{All}
 use Rattle.modbus.specs.Check.{sum, lrc}
 use Rattle.modbus.proofs.BytesLaws.{all-by}
-use Rattle.modbus.proofs.CheckLaws.{sum-step}
+use Rattle.modbus.proofs.CheckLaws.{sum-append, sum-step, lrc-zero, lrc-only}
 use Rattle.ascii.specs.Plain.{Digit, value, values}
 use Rattle.ascii.proofs.PlainLaws.{or-none, digits-two, length-values, values-step}
 use Rattle.frames.specs.Short.{EightDigits, Short}
@@ -86,24 +86,13 @@ seven-step s raw i x y n v p q =
 
 -- ---- the LRC of one byte more
 
-wraps-to-zero : (m : ℕ) → m < 256 → ((256 - m) % 256 + m) % 256 ≡ 0
-wraps-to-zero m h = by-cases (m ≤? 0) (λ p. omega arith) (λ p. omega (arith, p))
+carried : (s b r l : ℕ) → (r + b) % 256 ≡ l → (s + (l + 0)) % 256 ≡ 0 → (s + b + (r + 0)) % 256 ≡ 0
+carried s b r l e z = omega arith
 
-zero-wraps : (m r : ℕ) → m < 256 → r < 256 → (r + m) % 256 ≡ 0 → r ≡ (256 - m) % 256
-zero-wraps m r h k e = by-cases (r + m ≤? 0) (λ p. omega arith) (λ p. let z : r + m ≡ 256 = omega (arith, p) in omega arith)
-
-regrouped : (m b r : ℕ) → (r + (m + b) % 256) % 256 ≡ ((r + b) % 256 + m) % 256
-regrouped m b r = omega arith
-
-less-wrapped : (m b r : ℕ) → m < 256 → r < 256 → (r + b) % 256 ≡ (256 - m) % 256 → r ≡ (256 - (m + b) % 256) % 256
-less-wrapped m b r h k e =
-    zero-wraps ((m + b) % 256) r (omega arith) k (regrouped m b r ∙ ap (λ (x : ℕ). (x + m) % 256) e ∙ wraps-to-zero m h)
-
-pub lrc-step : (s : List ℕ) (i r : ℕ) → i < length s → r < 256 → (r + getD s i 0) % 256 ≡ lrc (take i s)
-    → r ≡ lrc (take (i + 1) s)
-unfolding lrc
+pub lrc-step : (s : List ℕ) (i r : ℕ) → i < length s → r < 256 → (r + getD s i 0) % 256 ≡ lrc (take i s) → r ≡ lrc (take (i + 1) s)
+unfolding sum
 lrc-step s i r h k e =
-    let m = sum (take i s) % 256 in
-    let g : (sum (take i s) + getD s i 0) % 256 ≡ (m + getD s i 0) % 256 = omega arith in
-    less-wrapped m (getD s i 0) r (omega arith) k e
-    ∙ ap (λ (x : ℕ). (256 - x) % 256) (sym g ∙ ap (λ (x : ℕ). x % 256) (sym (sum-step s i h)))
+    let l = lrc (take i s) in
+    let z = rw (sum-append (take i s) (l ∷ [])) at (lrc-zero (take i s)) in
+    lrc-only (take (i + 1) s) r k
+    (rw (sum-append (take (i + 1) s) (r ∷ []), sum-step s i h) (carried (sum (take i s)) (getD s i 0) r l e z))

@@ -1,9 +1,9 @@
 -- Laws of the two checks: one turn of each loop that computes them, that a CRC keeps to 16 bits, and that the LRC is the one byte that
 -- brings the sum to zero.
 -- Assumes nothing.
-use mathlib.Core.Path.{_≡_, refl, sym, ap, _∙_}
+use mathlib.Core.Path.{_≡_, sym, _∙_}
 use mathlib.Core.List.{List, [], _∷_, _++_}
-use Prim.Native.Nat.{ℕ, zero, suc, _+_, _-_, _*_, _/_, _%_, _^_, _<_, _≤_, min}
+use Prim.Native.Nat.{ℕ, zero, suc, _+_, _-_, _/_, _%_, _^_, _<_, _≤_, min}
 use native.Mathlib.Omega.{arith}
 use native.Mathlib.Numerals.{add-one}
 use lib.Bits.{bitAnd, bitXor, and-mask, xor-lt}
@@ -11,8 +11,8 @@ use lib.Dec.{lit<}
 use lib.ListN.{length, getD, take, drop, length-take, drop-of-length-le}
 use lib.Seq.{drop-cons, getD-take, take-suc}
 use Rattle.modbus.specs.Step.{choose, _≟_}
-use Rattle.modbus.specs.Bytes.{All, Bytes}
-use Rattle.modbus.specs.Check.{shift, shifts, crcByte, crcFrom, crc, sum, complement, lrc}
+use Rattle.modbus.specs.Bytes.{Bytes}
+use Rattle.modbus.specs.Check.{shift, shifts, crcByte, crcFrom, crc, sum, lrc}
 use Rattle.modbus.proofs.StepLaws.{pick-yes, pick-no}
 
 -- ---- CRC

@@ -7,10 +7,9 @@ use native.Mathlib.Omega.{arith}
 use native.Mathlib.Nat.{div-add-mod'}
 use lib.Arith.{digits-div, digits-mod}
 use lib.ListN.{length}
-use Rattle.modbus.specs.Step.{Step, stop, go, choose, _≤?_, _and?_}
+use Rattle.modbus.specs.Step.{stop, go, _≤?_}
 use Rattle.modbus.specs.Bytes.{Bytes}
 use Rattle.modbus.specs.Hex.{digit, undigit, character, text, untext}
-use Rattle.modbus.specs.declared.ErrorKind.{ErrorKind}
 use Rattle.modbus.specs.declared.ErrorKind.the-variants.{OOB, FrameBroken}
 use Rattle.modbus.proofs.StepLaws.{pass, fail, follow, bound, pick-yes, pick-no, picked}
 

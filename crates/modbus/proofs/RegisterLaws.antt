@@ -3,7 +3,7 @@
 -- Assumes nothing.
 use mathlib.Core.Logic.{_≢_}
 use mathlib.Core.Path.{_≡_, refl, sym, subst, _∙_}
-use mathlib.Core.List.{List, [], _∷_}
+use mathlib.Core.List.{List, _∷_}
 use Prim.Native.Nat.{ℕ, zero, suc, _+_, _*_, _/_, _%_, _≤_, _<_}
 use native.Mathlib.Omega.{arith}
 use lib.ListN.{length, getD, take, drop, set, length-set, drop-of-length-le}
@@ -40,17 +40,6 @@ register-other l n k v h =
     let high = other-byte l n v (2 * k) (λ p. h (omega arith)) (λ p. omega arith) in
     let low = other-byte l n v (suc (2 * k)) (λ p. omega arith) (λ p. h (omega arith)) in
     omega arith
-
-set-byte : (l : List ℕ) (n v : ℕ) → ((i : ℕ) → getD l i 0 < 256) → v < 256 → (i : ℕ) → getD (set l n v) i 0 < 256
-set-byte [] n v b h i = b i
-set-byte (x ∷ l) zero v b h zero = h
-set-byte (x ∷ l) zero v b h (suc i) = b (suc i)
-set-byte (x ∷ l) (suc n) v b h zero = b zero
-set-byte (x ∷ l) (suc n) v b h (suc i) = set-byte l n v (λ j. b (suc j)) h i
-
-pub register-bytes : (l : List ℕ) (n v : ℕ) → ((i : ℕ) → getD l i 0 < 256) → v < 65536 → (i : ℕ) → getD (putRegister l n v) i 0 < 256
-unfolding putRegister
-register-bytes l n v b h = set-byte (set l (2 * n) (v / 256)) _ (v % 256) (set-byte l _ (v / 256) b (omega arith)) (omega arith)
 
 pub registers-law : Lawful registers
 registers-law =

@@ -10,10 +10,9 @@ use native.Mathlib.Decide.{ℕ-discrete, decLt, decLe}
 use native.Mathlib.Nat.{zero-add, add-zero, add-suc, suc-add, not-suc-le-zero}
 use lib.ListN.{length, getD, set, length-set}
 use lib.Seq.{getD-set-same, getD-set-other, ext-getD, set-out}
-use Rattle.modbus.specs.Step.{choose}
 use Rattle.modbus.specs.Bytes.{All, Bytes}
-use Rattle.modbus.specs.Table.{Kind, Fits, part}
-use Rattle.modbus.specs.Storage.{coilAt, withBit, putCoil, Storage, packed, store, Sound, sound?, size}
+use Rattle.modbus.specs.Table.{Fits, part}
+use Rattle.modbus.specs.Storage.{coilAt, withBit, putCoil, Storage, packed, store, Sound, size}
 use Rattle.modbus.proofs.StepLaws.{pick-yes, pick-no}
 use Rattle.modbus.proofs.BytesLaws.{byte-at, bytes-set}
 use Rattle.modbus.proofs.BitLaws.{bitAt, bits-determine, bit-same, bit-other, bit-byte}
@@ -181,10 +180,3 @@ module _ (S : Storage) (l : List ℕ) (cells : ℕ) where
   pub size-unsound : ¬ Sound S l cells → size S l cells ≡ 0
   unfolding size
   size-unsound h = pick-no _ _ _ h
-
-  -- no more cells than 65,536, and than the bytes hold
-  pub size-room : S .bytes 0 ≡ 0 → Sound S l (size S l cells)
-  unfolding size choose
-  size-room e =
-      elim (sound? S l cells) as (λ d. Sound S l (choose d cells 0))
-      [ yes p ↦ p | no p ↦ (omega arith, omega (arith, e)) ]

@@ -9,7 +9,7 @@ use Rattle.modbus.specs.Step.{Step, stop, go, _>>=_, _>>_, need, _≤?_,
 use Rattle.modbus.specs.Bytes.{wordAt}
 use Rattle.modbus.specs.Check.{crc, lrc}
 use Rattle.modbus.specs.Hex.{untext}
-use Rattle.modbus.specs.Table.{Kind, bit, word, Tab, kindOf}
+use Rattle.modbus.specs.Table.{bit, word, kindOf}
 use Rattle.modbus.specs.Request.{Fn, reads, one, many, Ask, read, write, writes, mostRead, mostWritten, octets}
 use Rattle.modbus.specs.Storage.{values}
 use Rattle.modbus.specs.declared.ErrorKind.{ErrorKind}

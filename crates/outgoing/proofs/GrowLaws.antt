@@ -1,18 +1,15 @@
--- What the answer of a call that adds to a response tells of its definition; what adding bytes comes to; and that
--- the slice stays as long, and the response within it.
+-- What the answer of a call that adds to a response tells of its definition; and what adding bytes comes to.
 -- Assumes nothing.
-use mathlib.Core.Path.{_≡_, refl, sym, ap, subst, _∙_}
-use mathlib.Core.List.{List, [], _∷_}
+use mathlib.Core.Path.{_≡_, sym, ap, _∙_}
+use mathlib.Core.List.{List, []}
 use Prim.Native.Nat.{ℕ, _+_, _≤_, _<_}
 use native.Mathlib.Omega.{arith}
 use lib.ListN.{length}
-use lib.Seq.{sets, length-sets}
-use Rattle.modbus.specs.Step.{Step, stop, go, _>>=_, _>>_, need, _≤?_}
+use lib.Seq.{sets}
+use Rattle.modbus.specs.Step.{Step, stop, go, _>>=_, _>>_}
 use Rattle.modbus.specs.Paper.{number, toldWith, donePaper, sizePaper}
 use Rattle.modbus.specs.declared.ErrorKind.{ErrorKind}
 use Rattle.modbus.specs.declared.ErrorKind.the-variants.{OOB}
-use Rattle.modbus.specs.declared.ModbusProto.{ModbusProto}
-use Rattle.modbus.specs.declared.ModbusProto.the-variants.{Rtu, Ascii, TcpUdp}
 use Rattle.modbus.specs.declared.DoneAnswer.{DoneAnswer}
 use Rattle.modbus.specs.declared.DoneAnswer.the-variants as done
 use Rattle.modbus.specs.declared.SizeAnswer.{SizeAnswer}
@@ -22,7 +19,7 @@ use Rattle.modbus.proofs.StepLaws.{follow, halt}
 use Rattle.modbus.proofs.Unique.{done-paper}
 use Rattle.response.specs.Bounded.{extended}
 use Rattle.response.proofs.BoundedLaws.{extended-fits, extended-none}
-use Rattle.outgoing.specs.Grow.{Response, response, Short, short, grown, grownPaper, refusedAt, orShort, add, byteCounted, counted, head, repeated, echo, except, seal}
+use Rattle.outgoing.specs.Grow.{Response, response, Short, short, grown, grownPaper, refusedAt, orShort, add}
 use Rattle.outgoing.specs.declared.Grown.{Grown}
 
 -- ---- what a call's answer tells
@@ -93,87 +90,3 @@ module _ (len : ℕ) (out : List ℕ) where
 
   pub add-nothing : len ≤ length out → add [] (response len out) ≡ go (response len out)
   add-nothing h = add-fits [] (omega arith) ∙ ap (λ (n : ℕ). go (response n out)) (omega arith)
-
--- ---- the slice stays as long, and the response within it
-
-pub record Kept (g r : Response) : Type 0 where
-  pub slice : length (r .out) ≡ length (g .out)
-  pub within : g .len ≤ length (g .out) → r .len ≤ length (r .out)
-
--- what a call leaves, whether it goes on or not
-abbrev left : Step Short Response → Response
-left m = grown m .1
-
-module _ (g : Response) where
-  kept-as-given : Kept g g
-  kept-as-given = record { slice = refl; within = λ h. h }
-
-  kept-need : {P : Type 0} (d : Dec P) (k : ErrorKind) (m : Step Short Response) → Kept g (left m)
-      → Kept g (left (need d (short k g) >> m))
-  unfolding _>>_ need
-  kept-need (yes p) k m h = h
-  kept-need (no p) k m h = kept-as-given
-
-  kept-bind : (m : Step Short Response) (f : Response → Step Short Response) → Kept g (left m)
-      → ((r : Response) → Kept g r → Kept g (left (f r))) → Kept g (left (m >>= f))
-  unfolding _>>=_
-  kept-bind (go r) f h k = k r h
-  kept-bind (stop x) f h k = h
-
-  -- what keeps a response that was kept
-  kept-on : (r s : Response) → Kept g r → Kept r s → Kept g s
-  kept-on r s h k = record { slice = k .slice ∙ h .slice; within = λ i. k .within (h .within i) }
-
-kept-add : (d : List ℕ) (r : Response) → Kept r (left (add d r))
-kept-add d r = by (r .len + length d ≤? length (r .out))
-  where
-    by : Dec (r .len + length d ≤ length (r .out)) → Kept r (left (add d r))
-    by (yes h) = rw (add-fits (r .len) (r .out) d h) record {
-      slice = length-sets (r .out) (r .len) d;
-      within = λ i. rw length-sets h;
-    }
-    by (no h) = rw (add-none (r .len) (r .out) d (omega arith)) (kept-as-given r)
-
-kept-byte : (bytes : ℕ) (r : Response) → Kept r (left (byteCounted bytes r))
-kept-byte bytes r = kept-need r _ _ _ (kept-add (bytes ∷ []) r)
-
-module _ (buf : List ℕ) (start : ℕ) (g r : Response) (h : Kept g r) where
-  kept-counted : (bytes : ℕ) → Kept g (left (counted buf start bytes g r))
-  kept-counted bytes =
-      kept-need g _ _ _ (kept-need g _ _ _
-      (kept-bind g _ _ (kept-on g r _ h (kept-add _ r)) (λ a k. kept-on g a _ k (kept-byte bytes a))))
-
-  kept-repeated : Kept g (left (repeated buf start g r))
-  kept-repeated = kept-need g _ _ _ (kept-need g _ _ _ (kept-on g r _ h (kept-add _ r)))
-
-kept-sealed : (p : ModbusProto) (g : Response) → Kept g (left (seal p g))
-unfolding seal
-kept-sealed Rtu g = kept-need g _ _ _ (kept-need g _ _ _ (kept-add _ g))
-kept-sealed Ascii g = kept-need g _ _ _ (kept-need g _ _ _ (kept-add _ g))
-kept-sealed TcpUdp g = kept-need g _ _ _ (kept-as-given g)
-
--- as a contract tells it: a number, and the response afterwards
-module _ (p : ModbusProto) (g : Response) (a : ℕ) (r : Response) where
-  told-kept : (m : Step Short Response) → grown m ≡ (a, r) → Kept g (left m) → Kept g r
-  told-kept m e h = subst (λ (t : ℕ × Response). Kept g (t .1)) e h
-
-  pub head-kept : (buf : List ℕ) (start bytes : ℕ) → grown (head p buf start bytes g) ≡ (a, r) → Kept g r
-  unfolding head
-  head-kept buf start bytes e =
-      told-kept (head p buf start bytes g) e
-      (kept-need g _ _ _ (kept-need g _ _ _
-      (kept-bind g _ _ (kept-add _ g) (λ s h. kept-counted buf start g s h bytes))))
-
-  pub echo-kept : (buf : List ℕ) (start : ℕ) → grown (echo p buf start g) ≡ (a, r) → Kept g r
-  unfolding echo
-  echo-kept buf start e =
-      told-kept (echo p buf start g) e
-      (kept-need g _ _ _ (kept-bind g _ _ (kept-add _ g) (λ s h. kept-repeated buf start g s h)))
-
-  pub except-kept : (unit function code : ℕ) → grown (except p unit function code g) ≡ (a, r) → Kept g r
-  unfolding except
-  except-kept unit function code e =
-      told-kept (except p unit function code g) e (kept-need g _ _ _ (kept-need g _ _ _ (kept-add _ g)))
-
-  pub seal-kept : grown (seal p g) ≡ (a, r) → Kept g r
-  seal-kept e = told-kept (seal p g) e (kept-sealed p g)

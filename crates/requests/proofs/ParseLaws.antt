@@ -127,13 +127,6 @@ Fine broadcast b (Written (Bits w)) = FineWrite bit broadcast b (w .address) (w 
 Fine broadcast b (Written (Words w)) = FineWrite word broadcast b (w .address) (w .count) (w .at)
 Fine broadcast b (Refused k) = weighed broadcast b ≡ stop k
 
--- a function's number tells it
-pub code-fn : (f g : Fn) → code f ≡ code g → f ≡ g
-code-fn f g e =
-    let p = find-fn {F = ℕ} 0 (code f) f refl in
-    let q = find-fn {F = ℕ} 0 (code f) g e in
-    cc
-
 read-bounds : (t : Tab) (n : ℕ) → n ≤ mostRead (kindOf t)
     → (1 ≤ code (reads t)) × (code (reads t) ≤ 4) × (code (reads t) ≤ 2 → n ≤ 2000) × (3 ≤ code (reads t) → n ≤ 125)
 read-bounds coils n h = (omega arith, omega arith, λ k. h, λ k. omega arith)

@@ -1,7 +1,7 @@
 -- The bounded response (document 01, module 4): a lent slice and a length. A call without room writes nothing and is OOB, and so is one
 -- whose length exceeds the slice, before all else. Bytes beyond the length keep what they held.
 -- Assumes nothing.
-use mathlib.Core.List.{List, []}
+use mathlib.Core.List.{List}
 use Prim.Native.Nat.{ℕ, _+_, _-_}
 use lib.ListN.{length, replicate}
 use lib.Seq.{sets}

@@ -1,14 +1,13 @@
 -- The calls on lent tables (document 01, module 4): one outside its table, or with data that does not match its count, is OOBContext and
 -- changes nothing; count 0 inside does nothing and succeeds.
 -- Assumes nothing.
-use mathlib.Core.Path.{_≡_}
 use mathlib.Core.List.{List, []}
-use Prim.Native.Nat.{ℕ, suc, _+_, _*_, _/_, _%_}
+use Prim.Native.Nat.{ℕ, suc, _+_, _*_, _/_}
 use lib.ListN.{length, take, drop}
 use lib.Seq.{sets}
 use denote.Ref.{RefT, now}
 use Rattle.modbus.specs.Step.{Step, go, _>>_, need, choose, _≤?_, _≟_}
-use Rattle.modbus.specs.Table.{word, part}
+use Rattle.modbus.specs.Table.{part}
 use Rattle.modbus.specs.Request.{octets, shown}
 use Rattle.modbus.specs.Storage.{Storage, registers, store, size, values}
 use Rattle.modbus.specs.declared.ErrorKind.{ErrorKind}

@@ -1,7 +1,6 @@
 -- `ascii::character` meets its contract: from 10 on the sum is seven more.
 -- Assumes nothing.
 use mathlib.Core.Logic.{⊎-elim}
-use mathlib.Core.Path.{sym, _∙_}
 use native.Mathlib.Omega.{arith}
 use borrow.Author.Needs.{needs}
 use Rattle.modbus.proofs.HexLaws.{digit-low, digit-high}

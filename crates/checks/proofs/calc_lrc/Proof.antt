@@ -3,8 +3,7 @@
 use mathlib.Core.Path.{_≡_, refl, sym, ap, _∙_}
 use Prim.Native.Nat.{ℕ, _≤_, _-_, _*_}
 use native.Mathlib.Omega.{arith}
-use lib.ListN.{length, take, getD}
-use Rattle.modbus.specs.Step.{go}
+use lib.ListN.{take, getD}
 use Rattle.modbus.specs.Paper.{told}
 use Rattle.modbus.specs.Check.{sum, lrc}
 use Rattle.modbus.proofs.StepLaws.{pass, fail}

@@ -11,7 +11,7 @@ use lib.ListN.{length, getD, drop, drop-of-length-le}
 use lib.Seq.{drop-cons}
 use borrow.Author.Needs.{needs}
 use Rattle.modbus.specs.Step.{choose}
-use Rattle.modbus.specs.Unit.{Listed, listed?}
+use Rattle.modbus.specs.Unit.{listed?}
 use Rattle.modbus.proofs.StepLaws.{pick-yes, pick-no}
 use Rattle.octets.proofs.contains.Statement.{statement}
 use Rattle.octets.proofs.contains.Tie as tie

@@ -1,6 +1,6 @@
 -- `octets::put_byte` meets its contract.
 -- Assumes nothing.
-use mathlib.Core.Path.{_≡_, refl, sym, ap₂}
+use mathlib.Core.Path.{refl, sym, ap₂}
 use borrow.Author.Tests.{lt-ltb, le-ltb}
 use lib.Seq.{set-out}
 use borrow.Author.Needs.{needs}

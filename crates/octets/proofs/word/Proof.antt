@@ -1,6 +1,6 @@
 -- `octets::word` meets its contract.
 -- Assumes nothing.
-use mathlib.Core.Path.{_≡_, sym, ap₂}
+use mathlib.Core.Path.{_≡_}
 use mathlib.Core.List.{List}
 use Prim.Native.Nat.{ℕ, suc, _+_, _*_, _≤_}
 use native.Mathlib.Omega.{arith}
