@@ -1,4 +1,4 @@
--- A text of digits alone, for the contracts of private functions.
+-- The digits of a text; and a text of digits alone, for the contracts of private functions.
 -- Assumes nothing.
 use mathlib.Core.Logic.{_⊎_}
 use mathlib.Core.Path.{_≡_}

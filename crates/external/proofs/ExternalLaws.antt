@@ -31,11 +31,12 @@ use Rattle.process.specs.Process.{responseOf, dataBytes, legal?}
 use Rattle.external.specs.External.{found, readFound, writeFound, without, foundBy}
 use Rattle.frame.specs.Changes.{kindNumber}
 use Rattle.external.specs.External.{lenToLeave, resizedTo, errorSet, kindCode, codeOf, errorSetIfUnset}
-use Rattle.external.specs.External.{readDone, readDoneLeft, writeDone, failedBy, readReported, writeReported}
+use Rattle.external.specs.External.{readDone, writeDone, failedBy, readReported, writeReported}
 use Rattle.external.specs.External.{externalReadProcessed, externalWriteProcessed}
-use Rattle.external.specs.External.{roomSized, roomed, roomPaper, noRoom, placed, wanted, readFoundBy, externalRead}
+use Rattle.external.specs.External.{roomSized, roomed, placed, wanted, readFoundBy, externalRead}
 use Rattle.external.specs.External.{indexed, illegal, coilFound, holdingFound, dataLen, manyFound}
 use Rattle.external.specs.External.{writeFoundBy, externalWrite}
+use Rattle.external.specs.Parts.{readDoneLeft, roomPaper, noRoom}
 use Rattle.frame.specs.declared.ModbusError.{ModbusError}
 use Rattle.frame.specs.declared.ModbusError.the-variants.{Unset, Code}
 use Rattle.frame.specs.declared.ModbusFunction.{ModbusFunction}

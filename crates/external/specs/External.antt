@@ -7,22 +7,20 @@ use lib.ListN.{length}
 use Rattle.modbus.specs.Step.{Step, stop, go, _>>=_, _>>_, need, choose, _≤?_, _≟_}
 use Rattle.modbus.specs.Table.{Kind, bit, word, kindOf}
 use Rattle.modbus.specs.Request.{Fn, reads, one, many}
-use Rattle.modbus.specs.Paper.{number, donePaper}
+use Rattle.modbus.specs.Paper.{number}
 use Rattle.modbus.specs.declared.ErrorKind.{ErrorKind}
 use Rattle.modbus.specs.declared.ErrorKind.the-variants.{OOB, FrameBroken, IllegalDataValue, ReadCallOnWriteFrame, WriteCallOnReadFrame}
 use Rattle.modbus.specs.declared.ModbusProto.{ModbusProto}
 use Rattle.modbus.specs.declared.ModbusProto.the-variants.{Rtu, Ascii, TcpUdp}
-use Rattle.modbus.specs.declared.DoneAnswer.the-variants.{Refused}
 use Rattle.response.specs.Bounded.{resized}
 use Rattle.outgoing.specs.Grow.{Response, Short, largest, head}
-use Rattle.frame.specs.State.{fnOf, grown, withError, After, after, well, refused, ended, doneOf, refusedOf}
+use Rattle.frame.specs.State.{fnOf, grown, withError, After, after, well, refused, ended}
 use Rattle.frame.specs.Changes.{kindNumber}
 use Rattle.frame.specs.Parse.{orLeave, second, byteCount}
 use Rattle.process.specs.Process.{responseOf, dataBytes, writeEchoed, legal?, valueOf}
 use Rattle.frame.specs.declared.ModbusError.{ModbusError}
 use Rattle.frame.specs.declared.ModbusError.the-variants.{Unset, Code}
 use Rattle.frame.specs.declared.ModbusFrame.{ModbusFrame}
-use Rattle.frame.specs.declared.Left.{Left}
 use Rattle.external.specs.declared.Reported.{Reported}
 use Rattle.external.specs.declared.Reported.the-variants as report
 use Rattle.external.specs.declared.Data.{Data}
@@ -37,7 +35,6 @@ use Rattle.external.specs.declared.ReadAnswer.{ReadAnswer}
 use Rattle.external.specs.declared.ReadAnswer.the-variants as reading
 use Rattle.external.specs.declared.WriteLeft.{WriteLeft}
 use Rattle.external.specs.declared.ReadLeft.{ReadLeft}
-use Rattle.external.specs.declared.Room.{Room}
 
 -- ---- answers in numbers
 
@@ -76,18 +73,6 @@ readFound r l = found (readAnswerPaper (r .answer)) (r .frame) l
 
 abbrev pub writeFound : WriteLeft → List ℕ → Found
 writeFound r l = found (writeAnswerPaper (r .answer)) (r .frame) l
-
-abbrev pub readRefused : ErrorKind → ModbusFrame → ReadLeft
-readRefused k s = record { answer = reading.Refused k; frame = s }
-
-abbrev pub writeRefused : ErrorKind → ModbusFrame → WriteLeft
-writeRefused k s = record { answer = writes.Refused k; frame = s }
-
-abbrev pub readWanted : Read → ModbusFrame → ReadLeft
-readWanted r s = record { answer = reading.Value r; frame = s }
-
-abbrev pub writeWanted : Write → ModbusFrame → WriteLeft
-writeWanted w s = record { answer = writes.Value w; frame = s }
 
 abbrev pub without : After → Found
 without a = record { left = a; values = [] }
@@ -134,12 +119,6 @@ readDone (reads t) s out = well s out
 readDone (one k) s out = refused WriteCallOnReadFrame s out
 readDone (many k) s out = refused WriteCallOnReadFrame s out
 
--- as the code says it
-abbrev pub readDoneLeft : Fn → ModbusFrame → Left
-readDoneLeft (reads t) s = doneOf s
-readDoneLeft (one k) s = refusedOf WriteCallOnReadFrame s
-readDoneLeft (many k) s = refusedOf WriteCallOnReadFrame s
-
 abbrev pub writeDone : Fn → ModbusFrame → List ℕ → List ℕ → After
 writeDone (reads t) s buf out = refused ReadCallOnWriteFrame s out
 writeDone (one k) s buf out = writeEchoed s buf out
@@ -183,13 +162,6 @@ roomSized s r (go (n, l)) = (well (grown n s) l, r .len)
 abbrev pub roomed : ℕ → ModbusFrame → Step Short Response → After × ℕ
 roomed bytes s (stop x) = (refused (x .why) (grown (x .at .len) s) (x .at .out), 0)
 roomed bytes s (go r) = roomSized s r (resized (r .out) (r .len) (r .len + bytes) 0)
-
--- as the code says it
-abbrev pub roomPaper : Room → List ℕ → After × ℕ
-roomPaper r l = (after (donePaper (r .answer) .0) (r .frame) l, r .at)
-
-abbrev pub noRoom : ErrorKind → ModbusFrame → Room
-noRoom k s = record { answer = Refused k; at = 0; frame = s }
 
 abbrev pub placed : Kind → ModbusFrame → After × ℕ → Found
 placed k s (a, at) =

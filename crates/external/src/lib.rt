@@ -22,12 +22,12 @@ ghost use Rattle.response.specs.Bounded.{resized};
 ghost use Rattle.outgoing.specs.Grow.{head};
 ghost use Rattle.frame.specs.State.{fnOf, leftPaper};
 ghost use Rattle.process.specs.Process.{responseOf};
-ghost use Rattle.external.specs.External.{codeOf, kindCode, lenToLeave, errorSet, errorSetIfUnset, readDoneLeft};
+ghost use Rattle.external.specs.External.{codeOf, kindCode, lenToLeave, errorSet, errorSetIfUnset};
 ghost use Rattle.external.specs.External.{writeDone, failedBy, externalReadProcessed, externalWriteProcessed};
-ghost use Rattle.external.specs.External.{readRefused, writeRefused, readWanted, writeWanted, readFound};
-ghost use Rattle.external.specs.External.{writeFound, noRoom, roomPaper, roomSized, roomed, wanted, externalRead};
+ghost use Rattle.external.specs.External.{readFound, writeFound, roomSized, roomed, wanted, externalRead};
 ghost use Rattle.external.specs.External.{indexed, illegal, coilFound, holdingFound, dataLen, manyFound};
 ghost use Rattle.external.specs.External.{externalWrite};
+ghost use Rattle.external.specs.Parts.{readRefused, writeRefused, readWanted, writeWanted, readDoneLeft, noRoom, roomPaper};
 
 // What the firmware reports of a request: done, one of the crate's kinds, or one of the two Modbus errors that are no
 // kind here.

@@ -1,6 +1,6 @@
 pub mod TextLaws
 pub mod CheckedLaws
 pub mod OpenedLaws
-pub mod ShortLaws
+pub mod LinesLaws
 pub mod LaidLaws
 pub mod Unique

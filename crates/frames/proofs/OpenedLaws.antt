@@ -26,9 +26,9 @@ use Rattle.modbus.proofs.HexLaws.{length-text, text-untext}
 use Rattle.modbus.proofs.PaperLaws.{byte-value, byte-refusal}
 use Rattle.ascii.specs.Reading.{finished, refused, Decoded, decode, parsed, counted, parsedInto}
 use Rattle.ascii.specs.Plain.{values}
-use Rattle.frames.specs.Opened.{opened, Fronted, Lined, lined?}
+use Rattle.frames.specs.Opened.{opened, Fronted}
 use Rattle.frames.specs.Checked.{checked}
-use Rattle.frames.specs.Short.{Short}
+use Rattle.frames.specs.Lines.{Lined, lined?, Short}
 use Rattle.frames.specs.declared.Opened.{Opened}
 use Rattle.frames.specs.declared.Opened.the-variants.{Body, Broken, Check}
 use Rattle.ascii.proofs.PlainLaws.{decode-untext, untext-values}

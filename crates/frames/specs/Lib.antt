@@ -1,3 +1,3 @@
 pub mod Opened
 pub mod Checked
-pub mod Short
+pub mod Lines

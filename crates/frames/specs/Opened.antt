@@ -1,11 +1,11 @@
 -- What opening a frame answers, and where a sealed one goes.
 -- Assumes nothing.
 use mathlib.Core.Path.{_≡_}
-use mathlib.Core.List.{List, [], _∷_}
-use Prim.Native.Nat.{ℕ, _-_, _≤_}
-use lib.ListN.{length, take, drop, getD}
+use mathlib.Core.List.{List}
+use Prim.Native.Nat.{ℕ}
+use lib.ListN.{length, take}
 use lib.Seq.{sets}
-use Rattle.modbus.specs.Step.{Step, stop, go, choose, _≤?_, _≟_, _and?_, same?}
+use Rattle.modbus.specs.Step.{Step, stop, go, choose, _≤?_}
 use Rattle.modbus.specs.Decode.{Message, Silent, readIgnored, foreign, frameBroken, frameCheck, wrongLength, badFunction, noRoom, badSetup}
 use Rattle.frames.specs.declared.Opened.{Opened}
 use Rattle.frames.specs.declared.Opened.the-variants.{Body, Broken, Check}
@@ -26,13 +26,6 @@ opened (stop badSetup) = Broken
 abbrev pub Fronted : Step Silent Message → List ℕ → Type 0
 Fronted (go m) raw = take (length (m .body)) raw ≡ m .body
 Fronted (stop o) raw = Unit {0}
-
--- a colon, CR and LF around a text of a length within the bounds
-abbrev pub Lined : List ℕ → Type 0
-Lined f = (9 ≤ length f) × ((length f ≤ 511) × ((getD f 0 0 ≡ 58) × (drop (length f - 2) f ≡ 13 ∷ 10 ∷ [])))
-
-abbrev pub lined? : (f : List ℕ) → Dec (Lined f)
-lined? f = (9 ≤? length f) and? (length f ≤? 511) and? (getD f 0 0 ≟ 58) and? same? (drop (length f - 2) f) (13 ∷ 10 ∷ [])
 
 -- bytes laid over the front of a buffer, if they fit, and how many
 abbrev pub laid : List ℕ → List ℕ → ℕ × List ℕ

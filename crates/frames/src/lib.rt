@@ -21,9 +21,9 @@ ghost use Rattle.modbus.specs.Frame.{wrap};
 ghost use Rattle.modbus.specs.Decode.{unwrap};
 ghost use Rattle.modbus.specs.declared.ModbusProto.the-variants.{Rtu, Ascii, TcpUdp};
 ghost use Rattle.ascii.specs.Plain.{Digit, value, values};
-ghost use Rattle.frames.specs.Opened.{opened, Fronted, lined?, laid};
+ghost use Rattle.frames.specs.Opened.{opened, Fronted, laid};
 ghost use Rattle.frames.specs.Checked.{checked};
-ghost use Rattle.frames.specs.Short.{EightDigits, Short};
+ghost use Rattle.frames.specs.Lines.{lined?, EightDigits, Short};
 
 // What a frame holds: a body of so many bytes, or why none.
 pub enum Opened {

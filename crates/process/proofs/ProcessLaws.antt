@@ -31,7 +31,8 @@ use Rattle.outgoing.specs.declared.Grown.{Grown}
 use Rattle.outgoing.proofs.GrowLaws.{grew, stopped, goes-on, ends-there}
 use Rattle.frame.specs.State.{fnOf, grown, withError, After, well, refused, ended, leftPaper, doneOf, refusedOf}
 use Rattle.frame.specs.Parse.{second}
-use Rattle.process.specs.Process.{responseOf, adding, resumed, dataBytes, dataAdded, dataLeft, cellsAdded, readFrom, readBy, readProcessed, endedWith, confirmed, confirmedBy, Legal, valueOf, oneWritten, dataHeld, storedMany, manyWritten, wrote, writing, writeBy, writeProcessed, excepted, finalized}
+use Rattle.process.specs.Process.{responseOf, adding, dataBytes, dataAdded, cellsAdded, readFrom, readBy, readProcessed, endedWith, confirmed, Legal, valueOf, oneWritten, dataHeld, storedMany, manyWritten, wrote, writing, writeBy, writeProcessed, excepted, finalized}
+use Rattle.process.specs.Parts.{resumed, dataLeft, confirmedBy}
 use Rattle.frame.specs.declared.ModbusFunction.{ModbusFunction}
 use Rattle.frame.specs.declared.ModbusError.{ModbusError}
 use Rattle.frame.specs.declared.ModbusError.the-variants.{Unset, Code}

@@ -13,21 +13,15 @@ use Rattle.modbus.specs.Storage.{Storage, packed, layout}
 use Rattle.modbus.specs.Paper.{number}
 use Rattle.modbus.specs.declared.ErrorKind.{ErrorKind}
 use Rattle.modbus.specs.declared.ErrorKind.the-variants.{OOB, OOBContext, FrameBroken, ReadCallOnWriteFrame, WriteCallOnReadFrame}
-use Rattle.modbus.specs.declared.SizeAnswer.{SizeAnswer}
-use Rattle.modbus.specs.declared.SizeAnswer.the-variants as size
-use Rattle.modbus.specs.declared.DoneAnswer.{DoneAnswer}
-use Rattle.modbus.specs.declared.DoneAnswer.the-variants as done
 use Rattle.tables.specs.Calls.{added, changed, stored, storedWhole}
 use Rattle.tables.specs.Lent.{Lent, tableOf, cellsOf}
 use Rattle.outgoing.specs.Grow.{Response, response, Short, reached, head, echo, except, seal}
 use Rattle.outgoing.specs.Grow as grow
-use Rattle.outgoing.specs.declared.Grown.{Grown}
-use Rattle.frame.specs.State.{fnOf, grown, withError, After, after, well, refused, ended, doneOf, refusedOf}
+use Rattle.frame.specs.State.{fnOf, grown, withError, After, after, well, refused, ended}
 use Rattle.frame.specs.Parse.{orLeave, second}
 use Rattle.frame.specs.declared.ModbusError.{ModbusError}
 use Rattle.frame.specs.declared.ModbusError.the-variants.{Unset, Code}
 use Rattle.frame.specs.declared.ModbusFrame.{ModbusFrame}
-use Rattle.frame.specs.declared.Left.{Left}
 
 -- ---- a state's response, and the state after something was added to it
 
@@ -37,10 +31,6 @@ responseOf s l = response (s .«response_len») l
 -- what was added to the response
 abbrev pub adding : ModbusFrame → ℕ × Response → After
 adding s (k, r) = after k (grown (r .len) s) (r .out)
-
--- as the code says it
-abbrev pub resumed : ModbusFrame → Grown → Left
-resumed s g = record { answer = g .answer; frame = grown (g .len) s }
 
 -- ---- reads
 
@@ -54,12 +44,6 @@ abbrev pub dataAdded : ModbusFrame → List ℕ → Step ErrorKind (ℕ × List 
 dataAdded s out (go (n, l)) = well (grown n s) l
 dataAdded s out (stop k) =
     choose (number k ≟ number OOBContext) (well (withError 2 (grown (s .«response_len» - 5) s)) out) (refused k s out)
-
--- as the code says it
-abbrev pub dataLeft : ModbusFrame → SizeAnswer → Left
-dataLeft s (size.Value n) = doneOf (grown n s)
-dataLeft s (size.Refused k) =
-    choose (number k ≟ number OOBContext) (doneOf (withError 2 (grown (s .«response_len» - 5) s))) (refusedOf k s)
 
 abbrev pub cellsAdded : Storage → List ℕ → ℕ → ModbusFrame → Step Short Response → After
 cellsAdded S table cells s (stop x) = refused (x .why) (grown (x .at .len) s) (x .at .out)
@@ -97,11 +81,6 @@ writeEchoed s buf out = adding s (grow.grown (echo (s .proto) buf (s .«frame_st
 abbrev pub confirmed : ModbusFrame → List ℕ → List ℕ → List ℕ → Step ErrorKind (ℕ × List ℕ) → After × List ℕ
 confirmed s buf out table (go (v, m)) = (writeEchoed s buf out, m)
 confirmed s buf out table (stop k) = (well (withError 2 s) out, table)
-
--- as the code says it, of the answer of a table call
-abbrev pub confirmedBy : ModbusFrame → List ℕ → List ℕ → DoneAnswer → After
-confirmedBy s buf out done.Done = writeEchoed s buf out
-confirmedBy s buf out (done.Refused k) = well (withError 2 s) out
 
 -- one value: a coil is FF00 or 0000
 abbrev pub Legal : Kind → ℕ → Type 0

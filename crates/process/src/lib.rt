@@ -26,7 +26,8 @@ ghost use Rattle.tables.specs.Lent.{lentOf};
 ghost use Rattle.outgoing.specs.Grow.{grownPaper, head};
 ghost use Rattle.outgoing.specs.Grow as grow;
 ghost use Rattle.frame.specs.State.{leftPaper};
-ghost use Rattle.process.specs.Process.{responseOf, resumed, dataBytes, dataLeft, readFrom, readProcessed, legal?, writeEchoed, confirmedBy, oneWritten, dataHeld, manyWritten, wrote, writeProcessed, finalized};
+ghost use Rattle.process.specs.Process.{responseOf, dataBytes, readFrom, readProcessed, legal?, writeEchoed, oneWritten, dataHeld, manyWritten, wrote, writeProcessed, finalized};
+ghost use Rattle.process.specs.Parts.{resumed, dataLeft, confirmedBy};
 
 pub fn process_read(
     frame: ModbusFrame,

@@ -5,7 +5,7 @@ use mathlib.Core.Path.{_≡_, refl}
 use native.Mathlib.Omega.{arith}
 use borrow.Author.Needs.{needs}
 use lib.ListN.{length, length-set}
-use Rattle.frames.proofs.ShortLaws.{Seven, seven-start, seven-step, seven-end}
+use Rattle.frames.proofs.LinesLaws.{Seven, seven-start, seven-step, seven-end}
 use Rattle.frames.proofs.decode_eight.Statement.{statement}
 use Rattle.frames.proofs.decode_eight.Tie as tie
 

@@ -7,8 +7,8 @@ use borrow.Author.Needs.{needs}
 use borrow.Author.Tests.{eqb-true}
 use lib.ListN.{length}
 use Rattle.ascii.proofs.PlainLaws.{never, or-none}
-use Rattle.frames.specs.Short.{EightDigits}
-use Rattle.frames.proofs.ShortLaws.{short-line}
+use Rattle.frames.specs.Lines.{EightDigits}
+use Rattle.frames.proofs.LinesLaws.{short-line}
 use Rattle.frames.proofs.is_short.Statement.{statement}
 use Rattle.frames.proofs.is_short.Tie as tie
 

@@ -11,7 +11,7 @@ use lib.Seq.{sets, take-all}
 use Rattle.modbus.specs.Check.{sum, lrc}
 use Rattle.modbus.specs.Hex.{digit, text}
 use Rattle.ascii.proofs.ReadingLaws.{rest, rest-step, rest-done}
-use Rattle.frames.proofs.ShortLaws.{lrc-step}
+use Rattle.frames.proofs.LinesLaws.{lrc-step}
 use Rattle.frames.proofs.lay_few.Statement.{statement}
 use Rattle.frames.proofs.lay_few.Tie as tie
 

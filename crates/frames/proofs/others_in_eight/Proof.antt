@@ -5,7 +5,7 @@ use Prim.Native.Nat.{_-_, _≤_}
 use native.Mathlib.Omega.{arith}
 use borrow.Author.Needs.{needs}
 use Rattle.ascii.proofs.PlainLaws.{other-none}
-use Rattle.frames.proofs.ShortLaws.{Digits, digits-more}
+use Rattle.frames.proofs.LinesLaws.{Digits, digits-more}
 use Rattle.frames.proofs.others_in_eight.Statement.{statement}
 use Rattle.frames.proofs.others_in_eight.Tie as tie
 

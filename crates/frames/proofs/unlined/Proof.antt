@@ -6,7 +6,7 @@ use native.Mathlib.Omega.{arith}
 use borrow.Author.Needs.{needs}
 use lib.ListN.{length}
 use Rattle.modbus.proofs.StepLaws.{pick-yes, pick-no}
-use Rattle.frames.specs.Opened.{Lined, lined?}
+use Rattle.frames.specs.Lines.{Lined, lined?}
 use Rattle.frames.proofs.OpenedLaws.{last-two, same-two}
 use Rattle.frames.proofs.unlined.Statement.{statement}
 use Rattle.frames.proofs.unlined.Tie as tie

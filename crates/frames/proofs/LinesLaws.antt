@@ -16,7 +16,7 @@ use Rattle.modbus.proofs.BytesLaws.{all-by}
 use Rattle.modbus.proofs.CheckLaws.{sum-append, sum-step, lrc-zero, lrc-only}
 use Rattle.ascii.specs.Plain.{Digit, value, values}
 use Rattle.ascii.proofs.PlainLaws.{or-none, digits-two, length-values, values-step}
-use Rattle.frames.specs.Short.{EightDigits, Short}
+use Rattle.frames.specs.Lines.{EightDigits, Short}
 use Rattle.frames.proofs.OpenedLaws.{front}
 
 -- the first i characters from `at` on are digits
