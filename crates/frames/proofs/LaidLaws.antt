@@ -5,11 +5,13 @@ use mathlib.Core.List.{List, [], _∷_, _++_, append-assoc}
 use Prim.Native.Nat.{ℕ, suc, _+_, _*_, _/_, _%_, _<_, _≤_}
 use native.Mathlib.Omega.{arith}
 use native.Mathlib.Numerals.{add-one}
-use lib.ListN.{length, take, getD, set, length-take}
-use lib.Seq.{sets, take-suc, length-take-le}
+use lib.ListN.{length, take, set}
+use lib.Seq.{sets, length-take-le}
 use Rattle.modbus.specs.Check.{crc, lrc}
 use Rattle.modbus.specs.Hex.{digit, text}
+use Rattle.modbus.specs.Paper.{toldWith, sizePaper}
 use Rattle.modbus.specs.Frame.{wrap, tagLength, around}
+use Rattle.modbus.specs.declared.SizeAnswer.{SizeAnswer}
 use Rattle.modbus.specs.declared.ModbusProto.{ModbusProto}
 use Rattle.modbus.specs.declared.ModbusProto.the-variants.{Rtu, Ascii, TcpUdp}
 use Rattle.modbus.proofs.StepLaws.{pick-yes, pick-no}
@@ -17,15 +19,15 @@ use Rattle.modbus.proofs.BytesLaws.{sets-append}
 use Rattle.modbus.proofs.CheckLaws.{lrc-lt}
 use Rattle.modbus.proofs.HexLaws.{length-text, text-append}
 use Rattle.modbus.proofs.FrameLaws.{length-wrap}
+use Rattle.response.specs.Bounded.{extended}
+use Rattle.response.proofs.BoundedLaws.{extended-fits}
 use Rattle.ascii.proofs.ReadingLaws.{crlf}
 use Rattle.frames.specs.Opened.{laid}
 
--- one byte more of those to be laid
-pub sets-more : (buf src : List ℕ) (at i : ℕ) → i < length src
-    → set (sets buf at (take i src)) (at + i) (getD src i 0) ≡ sets buf at (take (i + 1) src)
-sets-more buf src at i h =
-    let k : at + length (take i src) ≡ at + i = simp length-take (omega arith) in
-    sym (rw (add-one, take-suc src i 0 h) (sets-append (take i src) (getD src i 0 ∷ []) buf at (at + i) k))
+-- bytes put behind the first `len` of a buffer that has room
+pub extended-put : (buf l after : List ℕ) (len : ℕ) (r : SizeAnswer)
+    → _≡_ {A = (ℕ × ℕ) × List ℕ} (sizePaper r, after) (toldWith buf (extended buf len l)) → len + length l ≤ length buf → after ≡ sets buf len l
+extended-put buf l after len r e h = ap (λ (p : (ℕ × ℕ) × List ℕ). p .1) (e ∙ ap (toldWith buf) (extended-fits buf len l h))
 
 module _ (buf l : List ℕ) where
   pub laid-none : length buf < length l → _≡_ {A = ℕ × List ℕ} (0, buf) (laid buf l)

@@ -7,6 +7,7 @@ use checks::calc_crc16;
 use checks::calc_lrc;
 use modbus::ByteAnswer;
 use octets::word;
+use response::extend;
 use std::num::wrapping_sub_u8;
 ghost use mathlib.Core.Path.{_≡_};
 ghost use mathlib.Core.Bool.{true, false};
@@ -187,16 +188,6 @@ pub fn open_ascii(frame: &[u8], raw: &mut [u8; 256]) -> Opened
     }
 }
 
-// Copies the first n bytes of `src` to the places of `dst` from `at` on.
-fn lay(dst: &mut [u8], at: usize, src: &[u8], n: usize)
-    requires { ⌜ (at + n ≤ length (now dst)) × (n ≤ length (now src)) ⌝ }
-    ensures { λ r. ⌜ now (dst .exit) ≡ sets (now (dst .entry)) at (take n (now (src .entry))) ⌝ }
-{
-    for i in 0..n {
-        dst[at + i] = src[i];
-    }
-}
-
 // The frame around the first n bytes of `body` goes to the front of the reply, if it fits; its length, or 0.
 pub fn seal_rtu(body: &[u8; 256], n: u8, reply: &mut [u8]) -> usize
     ensures { λ r. ⌜ (r, now (reply .exit)) ≡ laid (now (reply .entry)) (wrap Rtu [] (take n (now (body .entry)))) ⌝ }
@@ -207,7 +198,7 @@ pub fn seal_rtu(body: &[u8; 256], n: u8, reply: &mut [u8]) -> usize
         return 0;
     }
     let crc = calc_crc16(bytes, n);
-    lay(reply, 0, bytes, m);
+    extend(reply, 0, &bytes[..m]);
     reply[m] = (crc % 256) as u8;
     reply[m + 1] = (crc / 256) as u8;
     m + 2
@@ -276,6 +267,6 @@ pub fn seal_tcp(high: u8, low: u8, body: &[u8; 256], n: u8, reply: &mut [u8]) ->
     reply[3] = 0;
     reply[4] = 0;
     reply[5] = n;
-    lay(reply, 6, bytes, m);
+    extend(reply, 6, &bytes[..m]);
     m + 6
 }
