@@ -188,7 +188,7 @@ pub fn open_ascii(frame: &[u8], raw: &mut [u8; 256]) -> Opened
     }
 }
 
-// The frame around the first n bytes of `body` goes to the front of the reply, if it fits; its length, or 0.
+// The RTU frame around the first n bytes of `body` goes to the front of the reply, if it fits; its length, or 0.
 pub fn seal_rtu(body: &[u8; 256], n: u8, reply: &mut [u8]) -> usize
     ensures { λ r. ⌜ (r, now (reply .exit)) ≡ laid (now (reply .entry)) (wrap Rtu [] (take n (now (body .entry)))) ⌝ }
 {
@@ -234,7 +234,7 @@ fn lay_summed(dst: &mut [u8], bytes: &[u8]) -> u8
     }
 }
 
-// The same as a line of text.
+// The ASCII frame, in the same way.
 pub fn seal_ascii(body: &[u8; 256], n: u8, reply: &mut [u8]) -> usize
     ensures { λ r. ⌜ (r, now (reply .exit)) ≡ laid (now (reply .entry)) (wrap Ascii [] (take n (now (body .entry)))) ⌝ }
 {
@@ -252,7 +252,7 @@ pub fn seal_ascii(body: &[u8; 256], n: u8, reply: &mut [u8]) -> usize
     2 * m + 5
 }
 
-// The same with the transaction number's two bytes.
+// The TCP frame, in the same way, with the two bytes of its transaction number.
 pub fn seal_tcp(high: u8, low: u8, body: &[u8; 256], n: u8, reply: &mut [u8]) -> usize
     ensures { λ r. ⌜ (r, now (reply .exit)) ≡ laid (now (reply .entry)) (wrap TcpUdp (high ∷ low ∷ []) (take n (now (body .entry)))) ⌝ }
 {
