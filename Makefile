@@ -1,7 +1,17 @@
 # The README's commands. `make test` is what .ci/run calls; its last line is rt ci's 'N passed, 0 failed'.
-.PHONY: test beside frame-runs driver-runs host-runs peers prove lib measure serve clean
+.PHONY: test proved prove beside frame-runs driver-runs host-runs peers lib measure serve clean
+.NOTPARALLEL: # the runs use what rt ci has proved
 
-test: beside frame-runs driver-runs host-runs peers prove
+# everything; the verdict is said at the end, when the runs are through, and only then
+test: proved beside frame-runs driver-runs host-runs peers
+	@tail -n 1 out/ci.log | grep -x '[0-9]* passed, 0 failed'
+
+# every crate proved from nothing, the must-fail edits refused, the programs run
+prove: proved
+	@tail -n 1 out/ci.log
+
+proved:
+	@bin/prove
 
 # the ported calls beside the Rust they are ported from, on the same bytes (CALLS="5000000 2000000" for more)
 beside:
@@ -22,10 +32,6 @@ host-runs:
 # the server and mbpoll, pymodbus and libmodbus, as far as their packages can be had
 peers:
 	@bin/peers
-
-# every crate proved from nothing, the must-fail edits refused, the programs run
-prove:
-	@rt ci
 
 # the static library for firmware
 lib:

@@ -63,13 +63,16 @@ build_vectors() {
         --manifest-path out/oracle/Cargo.toml --target-dir out/oracle/target
 }
 
-# library CRATE..: $LIB, or those newly made
+# library CRATE..: $LIB, or the libraries of these crates. What is proved is not proved again, nor is a library made
+# again that is younger than the proof.
 library() {
-    local crate
+    local crate made
     if [ -z "${LIB:-}" ]; then
         for crate in "$@"; do
-            logged staticlib rt staticlib "$crate"
-            LIB="${LIB:-} target/staticlib/lib$crate.a"
+            made=target/staticlib/lib$crate.a
+            logged proved rt check "$crate"
+            [ "$made" -nt "target/stamp/$crate" ] || logged staticlib rt staticlib "$crate"
+            LIB="${LIB:-} $made"
         done
     fi
 }

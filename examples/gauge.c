@@ -10,7 +10,14 @@ void uart_send(const uint8_t *bytes, size_t len); /* the board's */
 
 enum { UNIT = 1, POINTS = 8, MOST = 256 };
 
+static const uint8_t everyone[] = {0};
 static uint8_t lamp_wanted[1], lamp[1], points[2 * POINTS], reading[2]; /* the four tables */
+static const struct dalonjang_unit gauge = {
+    .setup = {.transport = DALONJANG_RTU, .unit = UNIT, .coil_cells = 1, .discrete_cells = 1, .holding_cells = POINTS,
+              .input_cells = 1},
+    .list = everyone, .list_len = sizeof everyone, .coils = lamp_wanted, .coils_len = sizeof lamp_wanted,
+    .discretes = lamp, .discretes_len = sizeof lamp, .holdings = points, .holdings_len = sizeof points,
+    .inputs = reading, .inputs_len = sizeof reading};
 static uint8_t frame[MOST + 1], reply[DALONJANG_REPLY_ROOM];
 static size_t have;
 
@@ -19,11 +26,7 @@ void uart_byte(uint8_t byte) {
 }
 
 void line_quiet(void) {
-    static const uint8_t everyone[] = {0};
-    struct dalonjang_result r = dalonjang_drive(DALONJANG_RTU, UNIT, everyone, sizeof everyone,
-        lamp_wanted, sizeof lamp_wanted, 1, lamp, sizeof lamp, 1,
-        points, sizeof points, POINTS, reading, sizeof reading, 1,
-        frame, have, reply, sizeof reply);
+    struct dalonjang_result r = dalonjang_serve(&gauge, frame, have, reply, sizeof reply);
     have = 0;
     if (r.length > 0) uart_send(reply, r.length);
 }

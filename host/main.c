@@ -58,11 +58,7 @@ static int enough_descriptors(const struct options *o) {
 static int begin(struct host *h, struct options *o) {
     struct station *s = &h->station;
     if (!enough_descriptors(o)) return 0;
-    s->unit = (uint8_t)o->unit;
-    s->list_len = o->list_len;
-    memcpy(s->list, o->list, sizeof s->list);
-    s->image = o->image;
-    if (!tables_make(s->table, o->cells) || !watch_signals(h)) {
+    if (!station_open(s, o) || !watch_signals(h)) {
         complain("%s", strerror(errno));
         return 0;
     }

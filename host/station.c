@@ -1,5 +1,21 @@
 #include "station.h"
 
+int station_open(struct station *s, const struct options *o) {
+    const struct table *coils = &s->table[COILS], *discretes = &s->table[DISCRETES];
+    const struct table *holdings = &s->table[HOLDINGS], *inputs = &s->table[INPUTS];
+    if (!tables_make(s->table, o->cells)) return 0;
+    s->unit = (struct dalonjang_unit){
+        .setup = {.unit = (uint8_t)o->unit, .coil_cells = coils->cells, .discrete_cells = discretes->cells,
+                  .holding_cells = holdings->cells, .input_cells = inputs->cells},
+        .list = o->list, .list_len = o->list_len,
+        .coils = coils->bytes, .coils_len = coils->len,
+        .discretes = discretes->bytes, .discretes_len = discretes->len,
+        .holdings = holdings->bytes, .holdings_len = holdings->len,
+        .inputs = inputs->bytes, .inputs_len = inputs->len};
+    s->image = o->image;
+    return 1;
+}
+
 /* The cells of a request that was served: they stand in the six bytes from the unit on, however the frame travels. */
 static struct written written_by(uint8_t transport, const uint8_t *frame, size_t len) {
     uint8_t decoded[255];
@@ -20,13 +36,9 @@ static struct written written_by(uint8_t transport, const uint8_t *frame, size_t
 
 size_t station_serve(struct station *s, const char *from, uint8_t transport, const uint8_t *frame, size_t len,
     uint8_t *reply, size_t room) {
-    const struct table *coils = &s->table[COILS], *discretes = &s->table[DISCRETES];
-    const struct table *holdings = &s->table[HOLDINGS], *inputs = &s->table[INPUTS];
     struct written written = {0, 0, 0};
-    struct dalonjang_result r = dalonjang_drive(transport, s->unit, s->list, s->list_len,
-        coils->bytes, coils->len, coils->cells, discretes->bytes, discretes->len, discretes->cells,
-        holdings->bytes, holdings->len, holdings->cells, inputs->bytes, inputs->len, inputs->cells,
-        frame, len, reply, room);
+    s->unit.setup.transport = transport;
+    struct dalonjang_result r = dalonjang_serve(&s->unit, frame, len, reply, room);
     if (r.outcome <= DALONJANG_BROADCAST_DONE) written = written_by(transport, frame, len);
     s->served[r.outcome]++;
     s->unsaved |= written.count > 0;

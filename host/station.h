@@ -1,19 +1,22 @@
-/* What is served: a unit number, broadcast numbers and one set of tables. Every frame of every line and client comes
- * here, and here alone the library is called. */
+/* What is served: one unit with its tables. Every frame of every line and client comes here, and here alone the library
+ * is called. */
 #ifndef STATION_H
 #define STATION_H
 #include "log.h"
+#include "options.h"
 #include "tables.h"
 
 struct station {
-    uint8_t unit, list[256];
-    size_t list_len;
     struct table table[TABLES];
+    struct dalonjang_unit unit; /* over these tables; its transport is that of each frame */
     FILE *log;         /* or NULL */
     const char *image; /* or NULL */
     int unsaved;       /* cells were written since the image was saved */
     unsigned long served[OUTCOMES];
 };
+
+/* Tables of zeros and the unit over them; `o` must stay, since it has the list. Answers 0 where there is no memory. */
+int station_open(struct station *s, const struct options *o);
 
 /* Answers the length of the reply, 0 for none. */
 size_t station_serve(struct station *s, const char *from, uint8_t transport, const uint8_t *frame, size_t len,

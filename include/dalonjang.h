@@ -15,16 +15,18 @@
  * Linking. The library is for x86-64 and takes one function from outside, memcpy.
  * Every input is answered: a call never crashes, loops or needs anything of its arguments but the above.
  *
- * The rules are those of document 01; its numbers stand in the enumerators below.
+ * The rules are those of document 01 (docs/RULES.md); its numbers stand in the enumerators below.
  *
- * Example: 16 coils, 4 holding registers, a Modbus TCP frame of n bytes.
+ * Example: 16 coils, 4 holding registers, no discretes and no inputs; then a line for each Modbus TCP frame of n bytes.
  *
- *     static uint8_t coils[2], holdings[8];
- *     uint8_t reply[DALONJANG_REPLY_ROOM];
- *     const uint8_t everyone[] = {0};
- *     struct dalonjang_result r = dalonjang_drive(DALONJANG_TCP, 1, everyone, sizeof everyone,
- *         coils, sizeof coils, 16, NULL, 0, 0, holdings, sizeof holdings, 4, NULL, 0, 0,
- *         frame, n, reply, sizeof reply);
+ *     static uint8_t coils[2], holdings[8], reply[DALONJANG_REPLY_ROOM];
+ *     static const uint8_t everyone[] = {0};
+ *     static const struct dalonjang_unit gauge = {
+ *         .setup = {.transport = DALONJANG_TCP, .unit = 1, .coil_cells = 16, .holding_cells = 4},
+ *         .list = everyone, .list_len = sizeof everyone,
+ *         .coils = coils, .coils_len = sizeof coils, .holdings = holdings, .holdings_len = sizeof holdings};
+ *
+ *     struct dalonjang_result r = dalonjang_serve(&gauge, frame, n, reply, sizeof reply);
  *     if (r.length > 0) send(reply, r.length);                     // the reply, or the exception to be sent back
  *     if (r.outcome == DALONJANG_ANSWERED || r.outcome == DALONJANG_BROADCAST_DONE) redraw(coils, holdings);
  */
@@ -84,18 +86,23 @@ struct dalonjang_result {
     uint8_t code;    /* enum dalonjang_code; 0 unless outcome is EXCEPTION or BROADCAST_IGNORED */
 };
 
+/* What a unit is, in numbers. What an initializer does not name is zero: RTU, unit 0, a table without cells. */
+struct dalonjang_setup {
+    uint8_t transport; /* enum dalonjang_transport */
+    uint8_t unit;      /* our unit number */
+    size_t coil_cells, discrete_cells, holding_cells, input_cells; /* how many cells each table has, 0 to 65,536 */
+};
+
 /* Serves one request frame.
  *
- * transport      enum dalonjang_transport.
- * unit           our unit number.
- * list           the broadcast numbers, mostly {0}; may be empty. The list wins: if unit stands in it, every request to
- *                us is a broadcast and none is answered.
+ * setup          the numbers above.
+ * list           the broadcast numbers, mostly {0}; may be empty. The list wins: if our unit number stands in it, every
+ *                request to us is a broadcast and none is answered.
  * coils, discretes
  *                one bit a cell: cell n is bit n % 8, lowest first, of byte n / 8. At least cells / 8 bytes, rounded
  *                up.
  * holdings, inputs
- *                two bytes a cell, high byte first. At least 2 x cells bytes.
- * .._cells       how many cells the table has, 0 to 65,536. A table of 0 cells may be an empty slice.
+ *                two bytes a cell, high byte first. At least 2 x cells bytes. A table of 0 cells may be an empty slice.
  * frame          the frame, whole and as sent: RTU with its CRC, ASCII as text from the colon to CR LF, TCP with its
  *                header. Lengths outside the limits (RTU 4 to 256, ASCII 9 to 511, TCP 12 to 256) are FRAME_BROKEN.
  * reply          room for the reply, DALONJANG_REPLY_ROOM or DALONJANG_REPLY_ROOM_ASCII bytes or more.
@@ -109,10 +116,34 @@ struct dalonjang_result {
  *                outcome the whole table is as lent.
  *   list, discretes, inputs, frame
  *                never written. */
-struct dalonjang_result dalonjang_drive(uint8_t transport, uint8_t unit, const uint8_t *list, size_t list_len,
-    uint8_t *coils, size_t coils_len, size_t coil_cells, const uint8_t *discretes, size_t discretes_len,
-    size_t discrete_cells, uint8_t *holdings, size_t holdings_len, size_t holding_cells, const uint8_t *inputs,
-    size_t inputs_len, size_t input_cells, const uint8_t *frame, size_t frame_len, uint8_t *reply, size_t reply_len);
+struct dalonjang_result dalonjang_drive(struct dalonjang_setup setup, const uint8_t *list, size_t list_len,
+    uint8_t *coils, size_t coils_len, const uint8_t *discretes, size_t discretes_len,
+    uint8_t *holdings, size_t holdings_len, const uint8_t *inputs, size_t inputs_len,
+    const uint8_t *frame, size_t frame_len, uint8_t *reply, size_t reply_len);
+
+/* A unit as firmware keeps it: all that is the same for every frame. */
+struct dalonjang_unit {
+    struct dalonjang_setup setup;
+    const uint8_t *list;
+    size_t list_len;
+    uint8_t *coils;
+    size_t coils_len;
+    const uint8_t *discretes;
+    size_t discretes_len;
+    uint8_t *holdings;
+    size_t holdings_len;
+    const uint8_t *inputs;
+    size_t inputs_len;
+};
+
+/* That call for a unit, and nothing else. The unit itself is only read. */
+static inline struct dalonjang_result dalonjang_serve(const struct dalonjang_unit *unit,
+    const uint8_t *frame, size_t frame_len, uint8_t *reply, size_t reply_len) {
+    return dalonjang_drive(unit->setup, unit->list, unit->list_len,
+        unit->coils, unit->coils_len, unit->discretes, unit->discretes_len,
+        unit->holdings, unit->holdings_len, unit->inputs, unit->inputs_len,
+        frame, frame_len, reply, reply_len);
+}
 
 /* How the four calls below answer. Document 01 numbers more kinds; these calls give no others. */
 enum dalonjang_kind {

@@ -76,11 +76,13 @@ static inline struct dalonjang_result spoilt(const struct asked *a, struct dalon
     return r;
 }
 
+/* Through dalonjang_serve, so that it is tested too. */
 static inline struct dalonjang_result drive(const struct asked *a) {
     const struct slice *t = a->table;
-    return spoilt(a, dalonjang_drive(a->transport, a->unit, a->list.bytes, a->list.len,
-        t[COILS].bytes, t[COILS].len, a->cells[COILS], t[DISCRETES].bytes, t[DISCRETES].len, a->cells[DISCRETES],
-        t[HOLDINGS].bytes, t[HOLDINGS].len, a->cells[HOLDINGS], t[INPUTS].bytes, t[INPUTS].len, a->cells[INPUTS],
-        a->frame.bytes, a->frame.len, a->reply.bytes, a->reply.len));
+    struct dalonjang_unit unit = {
+        {a->transport, a->unit, a->cells[COILS], a->cells[DISCRETES], a->cells[HOLDINGS], a->cells[INPUTS]},
+        a->list.bytes, a->list.len, t[COILS].bytes, t[COILS].len, t[DISCRETES].bytes, t[DISCRETES].len,
+        t[HOLDINGS].bytes, t[HOLDINGS].len, t[INPUTS].bytes, t[INPUTS].len};
+    return spoilt(a, dalonjang_serve(&unit, a->frame.bytes, a->frame.len, a->reply.bytes, a->reply.len));
 }
 #endif

@@ -20,8 +20,8 @@ use Rattle.modbus.specs.declared.ByteAnswer.the-variants as byte
 use Rattle.modbus.proofs.StepLaws.{follow, bound, pick-yes, pick-no, picked}
 use Rattle.modbus.proofs.PaperLaws.{byte-value}
 use Rattle.modbus.proofs.HexLaws.{undigit-figure, undigit-letter, undigit-none, digit-undigit}
-use Rattle.ascii.specs.Reading.{Ending, finished, refused, onward, StopByte, second, decode, parsed, parsedInto}
-use Rattle.ascii.specs.Plain.{Digit, digit?, value, values, begin, Plain}
+use Rattle.ascii.specs.Reading.{Ending, finished, refused, onward, StopByte, second, decode, textParsed, parsedInto}
+use Rattle.ascii.specs.Plain.{Digit, digit?, value, pairValues, begin, Plain}
 use Rattle.ascii.proofs.ReadingLaws.{pair-both, second-some, placed-go, decode-go, text-from, resumed, resumed-go}
 
 -- a digit is no stop byte
@@ -79,24 +79,24 @@ pub value-told : (r : ByteAnswer) (c v : ℕ) → bytePaper r ≡ told (undigit 
 value-told r c v e q = let u = byte-value r (undigit c) v e q in (digit-undigit c v u .0, value-undigit c v u)
 
 -- pairs of digits stand for their values
-pub untext-values : (n : ℕ) (t : List ℕ) → length t ≡ 2 * n → All Digit t → untext t ≡ go (values t)
-unfolding untext values
+pub untext-values : (n : ℕ) (t : List ℕ) → length t ≡ 2 * n → All Digit t → untext t ≡ go (pairValues t)
+unfolding untext pairValues
 untext-values n [] h d = refl
 untext-values n (x ∷ []) h d = absurd (omega arith)
 untext-values n (x ∷ y ∷ t) h d =
     follow _ _ (undigit-value x (d .0)) ∙ follow _ _ (undigit-value y (d .1 .0))
     ∙ follow _ _ (untext-values (n - 1) t (omega arith) (d .1 .1))
 
-pub length-values : (n : ℕ) (t : List ℕ) → length t ≡ 2 * n → length (values t) ≡ n
-unfolding values
+pub length-values : (n : ℕ) (t : List ℕ) → length t ≡ 2 * n → length (pairValues t) ≡ n
+unfolding pairValues
 length-values n [] h = omega arith
 length-values n (x ∷ []) h = absurd (omega arith)
 length-values n (x ∷ y ∷ t) h = let k = length-values (n - 1) t (omega arith) in omega arith
 
 -- the answer and the buffer of a plain reading
 pub plain-read : (s : List ℕ) (n : ℕ) (buf : List ℕ) (at m : ℕ) → Plain s n (length buf) at → m ≡ (n - begin s) / 2
-    → _≡_ {A = (ℕ × ℕ) × List ℕ} ((0, m), sets buf at (values (drop (begin s) (take n s)))) (parsedInto s n buf at)
-unfolding parsed
+    → _≡_ {A = (ℕ × ℕ) × List ℕ} ((0, m), sets buf at (pairValues (drop (begin s) (take n s)))) (parsedInto s n buf at)
+unfolding textParsed
 plain-read [] n buf at m p e = absurd (omega arith)
 plain-read (c ∷ l) n buf at m (p₁, p₂, p₃, p₄, p₅, p₆) e =
     let s = c ∷ l in
@@ -104,8 +104,8 @@ plain-read (c ∷ l) n buf at m (p₁, p₂, p₃, p₄, p₅, p₆) e =
     let k : length t ≡ 2 * m = simp (length-drop, length-take) (omega arith) in
     let u = untext-values m t k p₆ in
     let f : choose (n ≤? length s) finished (refused OOB) ≡ finished = pick-yes _ _ _ p₂ in
-    let d = ap (λ (z : Ending). decode (length buf) z at t) f ∙ decode-untext t (values t) (length buf) at u (omega arith) (omega arith) in
-    rw d (ap (λ (z : ℕ). ((0, z), sets buf at (values t))) (sym (length-values m t k)))
+    let d = ap (λ (z : Ending). decode (length buf) z at t) f ∙ decode-untext t (pairValues t) (length buf) at u (omega arith) (omega arith) in
+    rw d (ap (λ (z : ℕ). ((0, z), sets buf at (pairValues t))) (sym (length-values m t k)))
 
 -- where code has found out in f where the digits start
 pub begin-small : (c f : ℕ) → f ≡ choose (c ≟ 58) 1 0 → f ≤ 1
@@ -121,12 +121,12 @@ module _ (s : List ℕ) (n room at f : ℕ) (e : f ≡ begin s) where
   plain-parts p = rw e (p .2, p .3, p .4, p .5)
 
 pub plain-parsed : (s : List ℕ) (n : ℕ) (buf : List ℕ) (at f m : ℕ) (after : List ℕ) → Plain s n (length buf) at → f ≡ begin s
-    → m ≡ (n - f) / 2 → after ≡ sets buf at (values (drop f (take (f + 2 * m) s)))
+    → m ≡ (n - f) / 2 → after ≡ sets buf at (pairValues (drop f (take (f + 2 * m) s)))
     → _≡_ {A = (ℕ × ℕ) × List ℕ} ((0, m), after) (parsedInto s n buf at)
 plain-parsed s n buf at f m after p e g h =
     let k : f + 2 * m ≡ n = ap (λ (x : ℕ). f + 2 * x) g ∙ plain-parts s n (length buf) at f e p .0 in
-    let j = h ∙ ap (λ (x : ℕ). sets buf at (values (drop f (take x s)))) k
-    ∙ ap (λ (x : ℕ). sets buf at (values (drop x (take n s)))) e in
+    let j = h ∙ ap (λ (x : ℕ). sets buf at (pairValues (drop f (take x s)))) k
+    ∙ ap (λ (x : ℕ). sets buf at (pairValues (drop x (take n s)))) e in
     ap (λ (x : List ℕ). ((0, m), x)) j ∙ plain-read s n buf at m p (g ∙ ap (λ (x : ℕ). (n - x) / 2) e)
 
 -- ---- pairs and characters of the first e bytes, as loops come to them
@@ -141,15 +141,15 @@ pub digits-two : (s : List ℕ) (e k : ℕ) → All Digit (drop k (take e s)) �
     → Digit (getD s k 0) × Digit (getD s (k + 1) 0) × All Digit (drop (k + 2) (take e s))
 digits-two s e k d h j = let f = rw (from-two s e k h j) at d in (f .0, f .1 .0, f .1 .1)
 
-pub values-step : (s : List ℕ) (e k : ℕ) (buf : List ℕ) (p x y : ℕ) (z : List ℕ) → sets buf p (values (drop k (take e s))) ≡ z
+pub values-step : (s : List ℕ) (e k : ℕ) (buf : List ℕ) (p x y : ℕ) (z : List ℕ) → sets buf p (pairValues (drop k (take e s))) ≡ z
     → k + 1 < e → e ≤ length s → x ≡ value (getD s k 0) → y ≡ value (getD s (k + 1) 0)
-    → sets (set buf p (x * 16 + y)) (suc p) (values (drop (k + 2) (take e s))) ≡ z
-unfolding values
+    → sets (set buf p (x * 16 + y)) (suc p) (pairValues (drop (k + 2) (take e s))) ≡ z
+unfolding pairValues
 values-step s e k buf p x y z inv h j f g = rw (f, g) (rw (from-two s e k h j) at inv)
 
-pub values-done : (s : List ℕ) (e k : ℕ) (buf : List ℕ) (p : ℕ) (z : List ℕ) → sets buf p (values (drop k (take e s))) ≡ z
+pub values-done : (s : List ℕ) (e k : ℕ) (buf : List ℕ) (p : ℕ) (z : List ℕ) → sets buf p (pairValues (drop k (take e s))) ≡ z
     → e ≤ k → buf ≡ z
-unfolding values
+unfolding pairValues
 values-done s e k buf p z inv h =
     let j : length (take e s) ≤ k = simp length-take (omega arith) in rw (drop-of-length-le (take e s) j) at inv
 
@@ -186,7 +186,7 @@ unfoldable pub Begun : List ℕ → ℕ → List ℕ → ℕ → ℕ → List �
 Begun s f buf₀ at₀ k buf at =
     (e : ℕ) → k ≤ e → e ≤ length s
     → (All Digit (drop k (take e s)) → All Digit (drop f (take e s)))
-    × (sets buf at (values (drop k (take e s))) ≡ sets buf₀ at₀ (values (drop f (take e s))))
+    × (sets buf at (pairValues (drop k (take e s))) ≡ sets buf₀ at₀ (pairValues (drop f (take e s))))
 
 pub begun-start : (s : List ℕ) (f : ℕ) (buf : List ℕ) (at : ℕ) → Begun s f buf at f buf at
 unfolding Begun
@@ -202,7 +202,7 @@ module _ (s : List ℕ) (f : ℕ) (buf₀ : List ℕ) (at₀ k : ℕ) (buf : Lis
         values-step s e k buf at x y _ (r .1) (omega arith) j (p .1) (q .1),
       )
 
-  pub begun-done : k ≤ length s → All Digit (drop f (take k s)) × (buf ≡ sets buf₀ at₀ (values (drop f (take k s))))
+  pub begun-done : k ≤ length s → All Digit (drop f (take k s)) × (buf ≡ sets buf₀ at₀ (pairValues (drop f (take k s))))
   unfolding Begun
   begun-done h =
       let r = inv k (omega arith) h in
@@ -221,7 +221,7 @@ quick-room r end from room at d q h =
 module _ (s : List ℕ) (n : ℕ) (h : n ≤ length s) (end : Ending) (z : (ℕ × ℕ) × List ℕ) (e k′ at′ : ℕ) (after : List ℕ) where
   pub resumed-digits : (m i k : ℕ) (buf : List ℕ) (at : ℕ) → resumed end k buf at (drop i (take n s)) ≡ z
       → m ≤ (n - i) / 2 → m ≤ 254 - at → m ≤ length buf - at → e ≡ i + 2 * m → k′ ≡ k + m → at′ ≡ at + m
-      → All Digit (drop i (take e s)) → after ≡ sets buf at (values (drop i (take e s)))
+      → All Digit (drop i (take e s)) → after ≡ sets buf at (pairValues (drop i (take e s)))
       → resumed end k′ after at′ (drop e (take n s)) ≡ z
   resumed-digits zero i k buf at inv h₁ h₂ h₃ q₁ q₂ q₃ d g =
       let a : e ≡ i = omega arith in

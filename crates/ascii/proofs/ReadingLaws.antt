@@ -18,7 +18,7 @@ use Rattle.modbus.specs.declared.ErrorKind.the-variants.{OOB}
 use Rattle.modbus.proofs.StepLaws.{pass, fail, follow, halt, needed, bound, pick-yes, pick-no, picked}
 use Rattle.modbus.proofs.BytesLaws.{sets-append}
 use Rattle.modbus.proofs.HexLaws.{length-text}
-use Rattle.ascii.specs.Reading.{Ending, finished, refused, Decoded, ends, onward, StopByte, stopByte?, orRefused, second, pair, placed, decode, parsed, counted, parsedInto, putText, generatedInto}
+use Rattle.ascii.specs.Reading.{Ending, finished, refused, Decoded, ends, onward, StopByte, stopByte?, orRefused, second, pair, placed, decode, textParsed, counted, parsedInto, putText, generatedInto}
 
 -- ---- a pair
 
@@ -151,7 +151,7 @@ take-within s n = by (n ≤? length s)
 
 pub parsed-none : (s : List ℕ) (n : ℕ) (buf : List ℕ) (at : ℕ) → length s ≡ 0
     → _≡_ {A = (ℕ × ℕ) × List ℕ} ((21, 0), buf) (parsedInto s n buf at)
-unfolding parsed
+unfolding textParsed
 parsed-none [] n buf at h = refl
 parsed-none (c ∷ l) n buf at h = absurd (omega arith)
 
@@ -159,11 +159,11 @@ parsed-none (c ∷ l) n buf at h = absurd (omega arith)
 pub resumed-start : (s : List ℕ) (n m i : ℕ) (buf : List ℕ) (at : ℕ) → ¬ (length s ≡ 0) → m ≡ min n (length s)
     → i ≡ choose (getD s 0 0 ≟ 58) 1 0
     → resumed (choose (n ≤? length s) finished (refused OOB)) (at - at) buf at (drop i (take m s)) ≡ parsedInto s n buf at
-unfolding resumed parsed
+unfolding resumed textParsed
 resumed-start [] n m i buf at h e f = absurd (h refl)
 resumed-start (c ∷ l) n m i buf at h e f =
     let z : at - at ≡ 0 = omega arith in
-    rw (e, take-within (c ∷ l) n, f, z) (answered-none buf at (parsed (c ∷ l) n (length buf) at))
+    rw (e, take-within (c ∷ l) n, f, z) (answered-none buf at (textParsed (c ∷ l) n (length buf) at))
 
 module _ (s : List ℕ) (n i : ℕ) (end : Ending) (k : ℕ) (buf : List ℕ) (at : ℕ) (z : (ℕ × ℕ) × List ℕ)
     (inv : resumed end k buf at (drop i (take n s)) ≡ z) where

@@ -14,7 +14,7 @@ use Rattle.modbus.specs.Frame.{line}
 use Rattle.modbus.specs.declared.ErrorKind.the-variants.{OOB, FrameBroken}
 use Rattle.modbus.proofs.StepLaws.{pick-yes}
 use Rattle.modbus.proofs.HexLaws.{digit-low, digit-high, undigit-digit, undigit-none}
-use Rattle.ascii.specs.Reading.{Ending, finished, refused, Decoded, ends, onward, StopByte, second, decode, parsed, parsedInto, generatedInto}
+use Rattle.ascii.specs.Reading.{Ending, finished, refused, Decoded, ends, onward, StopByte, second, decode, textParsed, parsedInto, generatedInto}
 use Rattle.ascii.proofs.ReadingLaws.{pair-stop, pair-second, pair-both, placed-full, placed-stop, placed-go, decode-stop, decode-go, line-written}
 
 digit-from : (n : ℕ) → 48 ≤ digit n
@@ -52,8 +52,8 @@ decode-text (b ∷ l) y room end at t h k =
     ∙ rw e (ap (onward (go b)) (decode-text l (y .1) room end (suc at) t (omega arith) (omega arith)))
 
 -- all of a text behind a colon
-parsed-colon : (t : List ℕ) (room at : ℕ) → parsed (58 ∷ t) (length (58 ∷ t)) room at ≡ decode room finished at t
-unfolding parsed
+parsed-colon : (t : List ℕ) (room at : ℕ) → textParsed (58 ∷ t) (length (58 ∷ t)) room at ≡ decode room finished at t
+unfolding textParsed
 parsed-colon t room at =
     let e = pick-yes (length (58 ∷ t) ≤? length (58 ∷ t)) finished (refused OOB) (omega arith) in
     let f = pick-yes {A = ℕ} (58 ≟ 58) 1 0 refl in
@@ -62,13 +62,13 @@ parsed-colon t room at =
 -- where what stands behind the bytes gives none, the reading ends as it ends
 behind : (l : List ℕ) → Bytes l → (room at : ℕ) (t : List ℕ) (e : Ending) → at + length l ≤ 255 → at + length l ≤ room
     → decode room finished (at + length l) t ≡ ends e
-    → parsed (58 ∷ text l ++ t) (length (58 ∷ text l ++ t)) room at ≡ record { bytes = l; ending = e }
+    → textParsed (58 ∷ text l ++ t) (length (58 ∷ text l ++ t)) room at ≡ record { bytes = l; ending = e }
 behind l y room at t e h k q =
     parsed-colon (text l ++ t) room at ∙ decode-text l y room finished at t h k ∙ ap (after l) q
     ∙ ap (λ (b : List ℕ). record { bytes = b; ending = e }) (append-nil l)
 
 module _ (l : List ℕ) (y : Bytes l) (room at : ℕ) (fits : at + length l ≤ room) where
-  pub round-trip : at + length l ≤ 254 → parsed (line l) (length (line l)) room at ≡ record { bytes = l; ending = finished }
+  pub round-trip : at + length l ≤ 254 → textParsed (line l) (length (line l)) room at ≡ record { bytes = l; ending = finished }
   round-trip h =
       behind l y room at (13 ∷ 10 ∷ []) finished (omega arith) fits
       (decode-stop room finished _ 13 (10 ∷ []) finished
@@ -76,22 +76,22 @@ module _ (l : List ℕ) (y : Bytes l) (room at : ℕ) (fits : at + length l ≤ 
 
   -- the position is tested against 255 before the stop bytes, of which `c` may be one
   pub full-line : at + length l ≡ 255 → (c : ℕ) (t : List ℕ)
-      → parsed (58 ∷ text l ++ (c ∷ t)) (length (58 ∷ text l ++ (c ∷ t))) room at ≡ record { bytes = l; ending = refused OOB }
+      → textParsed (58 ∷ text l ++ (c ∷ t)) (length (58 ∷ text l ++ (c ∷ t))) room at ≡ record { bytes = l; ending = refused OOB }
   full-line h c t =
       behind l y room at (c ∷ t) (refused OOB) (omega arith) fits
       (decode-stop room finished _ c t (refused OOB) (placed-full room (at + length l) c t h))
 
   -- but not at the end of the data
   pub full-data : at + length l ≡ 255
-      → parsed (58 ∷ text l) (length (58 ∷ text l)) room at ≡ record { bytes = l; ending = finished }
+      → textParsed (58 ∷ text l) (length (58 ∷ text l)) room at ≡ record { bytes = l; ending = finished }
   unfolding decode
   full-data h =
-      subst (λ (t : List ℕ). parsed t (length t) room at ≡ record { bytes = l; ending = finished }) (append-nil (58 ∷ text l))
+      subst (λ (t : List ℕ). textParsed t (length t) room at ≡ record { bytes = l; ending = finished }) (append-nil (58 ∷ text l))
       (behind l y room at [] finished (omega arith) fits refl)
 
   -- a digit alone, at the end of the data and before a stop byte
   pub alone-at-end : at + length l ≤ 254 → (d : ℕ) → d < 16
-      → parsed (58 ∷ text l ++ (digit d ∷ [])) (length (58 ∷ text l ++ (digit d ∷ []))) room at ≡ record { bytes = l; ending = refused OOB }
+      → textParsed (58 ∷ text l ++ (digit d ∷ [])) (length (58 ∷ text l ++ (digit d ∷ []))) room at ≡ record { bytes = l; ending = refused OOB }
   unfolding second
   alone-at-end h d k =
       behind l y room at (digit d ∷ []) (refused OOB) (omega arith) fits
@@ -100,7 +100,7 @@ module _ (l : List ℕ) (y : Bytes l) (room at : ℕ) (fits : at + length l ≤ 
       (pair-second (digit d) [] (digit-no-stop d) d OOB (undigit-digit d k) refl)))
 
   pub alone-before-stop : at + length l ≤ 254 → (d c : ℕ) (t : List ℕ) → d < 16 → StopByte c
-      → parsed (58 ∷ text l ++ (digit d ∷ c ∷ t)) (length (58 ∷ text l ++ (digit d ∷ c ∷ t))) room at
+      → textParsed (58 ∷ text l ++ (digit d ∷ c ∷ t)) (length (58 ∷ text l ++ (digit d ∷ c ∷ t))) room at
       ≡ record { bytes = l; ending = refused FrameBroken }
   unfolding second
   alone-before-stop h d c t k s =

@@ -19,10 +19,10 @@ abbrev pub value : ℕ → ℕ
 value c = choose (c ≤? 57) (c - 48) (c - 55)
 
 -- what pairs of digits stand for
-unfoldable pub values : List ℕ → List ℕ
-values [] = []
-values (h ∷ []) = []
-values (h ∷ l ∷ t) = (value h * 16 + value l) ∷ values t
+unfoldable pub pairValues : List ℕ → List ℕ
+pairValues [] = []
+pairValues (h ∷ []) = []
+pairValues (h ∷ l ∷ t) = (value h * 16 + value l) ∷ pairValues t
 
 -- where the digits start: behind a colon
 abbrev pub begin : List ℕ → ℕ

@@ -71,9 +71,9 @@ decode room end at (h ∷ l ∷ t) = onward (placed room at h (l ∷ [])) (decod
 
 -- the first n bytes of the data are the text, without a colon that they may start with; reading past the data is OOB, and so is
 -- reading none
-unfoldable pub parsed : List ℕ → ℕ → ℕ → ℕ → Decoded
-parsed [] n room at = ends (refused OOB)
-parsed (c ∷ l) n room at =
+unfoldable pub textParsed : List ℕ → ℕ → ℕ → ℕ → Decoded
+textParsed [] n room at = ends (refused OOB)
+textParsed (c ∷ l) n room at =
     decode room (choose (n ≤? length (c ∷ l)) finished (refused OOB)) at
     (drop (choose (c ≟ 58) 1 0) (take n (c ∷ l)))
 
@@ -85,7 +85,7 @@ counted d (refused k) = stop k
 -- the answer and the buffer: the decoded bytes stand from the position on, and nothing else of it changes
 abbrev pub parsedInto : List ℕ → ℕ → List ℕ → ℕ → (ℕ × ℕ) × List ℕ
 parsedInto l n buf at =
-    let d = parsed l n (length buf) at in
+    let d = textParsed l n (length buf) at in
     (told (counted d (d .ending)), sets buf at (d .bytes))
 
 -- the text of bytes put at a place of a lent slice: whether it ends within the slice, and nothing is put where it does not

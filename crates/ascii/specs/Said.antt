@@ -3,8 +3,8 @@
 use Prim.Native.Nat.{ℕ}
 use Rattle.modbus.specs.Step.{Step, stop, go}
 use Rattle.ascii.specs.Reading.{Ending, finished, refused}
-use Rattle.ascii.specs.declared.Pair.{Pair}
-use Rattle.ascii.specs.declared.Pair.the-variants as pair
+use Rattle.ascii.specs.declared.reading.Pair.{Pair}
+use Rattle.ascii.specs.declared.reading.Pair.the-variants as pair
 
 abbrev pub said : Pair → Step Ending ℕ
 said (pair.Byte b) = go b

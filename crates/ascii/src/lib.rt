@@ -1,75 +1,25 @@
 // ASCII frames: text into bytes, and bytes into text.
-use checks::chr_to_hex;
+mod reading;
+mod writing;
+
 use modbus::ByteAnswer;
-use modbus::ErrorKind;
 use modbus::SizeAnswer;
-use octets::least;
-use octets::put_byte;
+use reading::colon;
+use reading::decode_pairs;
+use reading::parse_by_pairs;
+use reading::plain;
 use std::num::wrapping_sub_u8;
-ghost use mathlib.Core.Logic.{_⊎_};
+use writing::fits;
+use writing::lay_text;
+use writing::write_line;
+use writing::write_while_room;
 ghost use mathlib.Core.Path.{_≡_};
-ghost use mathlib.Core.Bool.{true, false};
-ghost use Prim.Native.Nat.{_+_, _*_, _-_, _%_, _<_, _≤_};
-ghost use lib.ListN.{length, getD, take, drop};
-ghost use lib.Seq.{sets};
-ghost use Rattle.modbus.specs.Step.{choose, _≤?_, _≟_};
+ghost use Prim.Native.Nat.{_%_};
+ghost use Rattle.modbus.specs.Step.{choose};
 ghost use Rattle.modbus.specs.Paper.{bytePaper, sizePaper};
-ghost use Rattle.modbus.specs.Bytes.{All};
-ghost use Rattle.modbus.specs.Hex.{digit, text};
-ghost use Rattle.modbus.specs.Frame.{line};
-ghost use Rattle.ascii.specs.Reading.{stopByte?, pair, parsedInto, putText, generatedInto};
-ghost use Rattle.ascii.specs.Plain.{Digit, digit?, value, values, Plain};
-ghost use Rattle.ascii.specs.Said.{said};
-ghost use Rattle.ascii.specs.PutTwo.{putTwo};
-
-// LF, CR and NUL end a text.
-fn stop_byte(ch: u8) -> bool
-    ensures { λ r. ⌜ r ≡ choose (stopByte? ch) true false ⌝ }
-{
-    match ch {
-        10 => true,
-        13 => true,
-        0 => true,
-        _ => false,
-    }
-}
-
-// What stands at a place of the text: the byte of two digits, a stop byte, or neither.
-enum Pair {
-    Byte(u8),
-    Stop,
-    Refused(ErrorKind),
-}
-
-// Reads the pair at `at` of the text, the first `end` bytes of the data.
-fn pair_at(data: &[u8], end: usize, at: usize) -> Pair
-    requires { ⌜ (at < end) × (end ≤ length (now «data»)) ⌝ }
-    ensures { λ r. ⌜ said r ≡ pair (getD (now («data» .entry)) at 0) (drop (at + 1) (take end (now («data» .entry)))) ⌝ }
-{
-    let ch = data[at];
-    if stop_byte(ch) {
-        return Pair::Stop;
-    }
-    match chr_to_hex(ch) {
-        ByteAnswer::Refused(k) => Pair::Refused(k),
-        ByteAnswer::Value(c) => {
-            if end <= at + 1 {
-                return Pair::Refused(ErrorKind::OOB);
-            }
-            match chr_to_hex(data[at + 1]) {
-                ByteAnswer::Refused(k) => Pair::Refused(k),
-                ByteAnswer::Value(c2) => Pair::Byte(c * 0x10 + c2),
-            }
-        }
-    }
-}
-
-// How many bytes of the text to skip: a colon that it starts with.
-fn colon(c: u8) -> usize
-    ensures { λ r. ⌜ r ≡ choose (c ≟ 58) 1 0 ⌝ }
-{
-    if c == 58 { 1 } else { 0 }
-}
+ghost use Rattle.modbus.specs.Hex.{digit};
+ghost use Rattle.ascii.specs.Reading.{parsedInto, putText, generatedInto};
+ghost use Rattle.ascii.specs.Plain.{digit?};
 
 // 0 for a digit 0-9 or A-F, 1 for any other character. By two differences that wrap: so the compiler tests sixteen at a time.
 pub fn other(c: u8) -> u8
@@ -82,139 +32,6 @@ pub fn other(c: u8) -> u8
         return 0;
     }
     1
-}
-
-// Whether the characters from `from` to before `end` are all digits. There is no way out on the way, for the same reason.
-fn all_digits(data: &[u8], from: usize, end: usize) -> bool
-    requires { ⌜ end ≤ length (now «data») ⌝ }
-    ensures { λ r. ⌜ (r ≡ true → All Digit (drop from (take end (now («data» .entry))))) ⌝ }
-{
-    let mut others: u8 = 0;
-    for i in from..end {
-        others = others | other(data[i]);
-    }
-    others == 0
-}
-
-// What a digit stands for.
-fn half(c: u8) -> u8
-    requires { ⌜ Digit c ⌝ }
-    ensures { λ r. ⌜ (r ≡ value c) × (r < 16) ⌝ }
-{
-    if c <= 57 {
-        return c - 48;
-    }
-    c - 55
-}
-
-// Decodes n pairs of digits from `from` on to the places of `buf` from `at` on.
-fn decode_pairs(data: &[u8], from: usize, n: usize, buf: &mut [u8], at: usize)
-    requires { ⌜ (from + 2 * n ≤ length (now «data»)) × (at + n ≤ length (now buf)) × All Digit (drop from (take (from + 2 * n) (now «data»))) ⌝ }
-    ensures { λ r. ⌜ now (buf .exit) ≡ sets (now (buf .entry)) at (values (drop from (take (from + 2 * n) (now («data» .entry))))) ⌝ }
-{
-    for i in 0..n {
-        let k = from + 2 * i;
-        buf[at + i] = half(data[k]) * 16 + half(data[k + 1]);
-    }
-}
-
-// Whether a reading can only decode pairs of digits to the end of the text: nothing else is in it, and there is room. A short text is
-// not worth the look.
-fn plain(data: &[u8], data_len: usize, room: usize, at: usize) -> bool
-    ensures { λ r. ⌜ (r ≡ true → Plain (now («data» .entry)) «data_len» room at) ⌝ }
-{
-    if data_len < 32 {
-        return false;
-    }
-    if data.len() < data_len {
-        return false;
-    }
-    let from = colon(data[0]);
-    let n = (data_len - from) / 2;
-    if from + 2 * n != data_len {
-        return false;
-    }
-    if 254 < n {
-        return false;
-    }
-    if 254 - n < at {
-        return false;
-    }
-    if room < at + n {
-        return false;
-    }
-    all_digits(data, from, data_len)
-}
-
-// How many pairs may be decoded with no question of room: all of the text, or none.
-fn quick_pairs(end: usize, from: usize, room: usize, at: usize) -> usize
-    requires { ⌜ at < 256 ⌝ }
-    ensures { λ r. ⌜ (r ≡ 0) ⊎ ((from + 2 * r ≤ end) × (at + r ≤ 254) × (at + r ≤ room)) ⌝ }
-{
-    if end < from {
-        return 0;
-    }
-    let n = (end - from) / 2;
-    if 254 < n + at {
-        return 0;
-    }
-    if room < at + n {
-        return 0;
-    }
-    n
-}
-
-// Decodes pairs of digits from `from` on to the places of `buf` from `at` on, n of them or up to the first that is none; how many.
-fn decode_digits(data: &[u8], from: usize, n: usize, buf: &mut [u8], at: usize) -> usize
-    requires { ⌜ (from + 2 * n ≤ length (now «data»)) × (n ≤ length (now buf) - at) ⌝ }
-    ensures { λ r. ⌜ (r ≤ n) × All Digit (drop from (take (from + 2 * r) (now («data» .entry)))) × (now (buf .exit) ≡ sets (now (buf .entry)) at (values (drop from (take (from + 2 * r) (now («data» .entry)))))) ⌝ }
-{
-    for i in 0..n {
-        let k = from + 2 * i;
-        match chr_to_hex(data[k]) {
-            ByteAnswer::Refused(_) => return i,
-            ByteAnswer::Value(a) => match chr_to_hex(data[k + 1]) {
-                ByteAnswer::Refused(_) => return i,
-                ByteAnswer::Value(b) => buf[at + i] = a * 16 + b,
-            },
-        }
-    }
-    n
-}
-
-// Decodes pair by pair, and ends where something else stands. The digits that come first are decoded with no other question.
-fn parse_by_pairs(data: &[u8], data_len: usize, frame_buf: &mut [u8], frame_pos: u8) -> ByteAnswer
-    ensures { λ r. ⌜ (bytePaper r, now («frame_buf» .exit)) ≡ parsedInto (now («data» .entry)) «data_len» (now («frame_buf» .entry)) «frame_pos» ⌝ }
-{
-    if data.len() == 0 {
-        return ByteAnswer::Refused(ErrorKind::OOB);
-    }
-    let end = least(data_len, data.len());
-    let from = colon(data[0]);
-    let quick = quick_pairs(end, from, frame_buf.len(), frame_pos as usize);
-    let done = decode_digits(data, from, quick, frame_buf, frame_pos as usize);
-    let mut data_pos = from + 2 * done;
-    let mut cpos = frame_pos + done as u8;
-    while data_pos < end {
-        if cpos == 255 {
-            return ByteAnswer::Refused(ErrorKind::OOB);
-        }
-        match pair_at(data, end, data_pos) {
-            Pair::Refused(k) => return ByteAnswer::Refused(k),
-            Pair::Stop => return ByteAnswer::Value(cpos - frame_pos),
-            Pair::Byte(b) => {
-                if !put_byte(frame_buf, cpos as usize, b) {
-                    return ByteAnswer::Refused(ErrorKind::OOB);
-                }
-            }
-        }
-        data_pos += 2;
-        cpos += 1;
-    }
-    if data.len() < data_len {
-        return ByteAnswer::Refused(ErrorKind::OOB);
-    }
-    ByteAnswer::Value(cpos - frame_pos)
 }
 
 // Decodes the first `data_len` bytes of the data into the frame buffer from `frame_pos` on, and answers how many bytes that gave.
@@ -234,15 +51,6 @@ pub fn parse_ascii_frame(
     let n = (data_len - from) / 2;
     decode_pairs(data, from, n, frame_buf, at);
     ByteAnswer::Value(n as u8)
-}
-
-// The character of a half byte. By a sum: so the compiler writes sixteen at a time.
-fn character(h: u8) -> u8
-    requires { ⌜ h < 16 ⌝ }
-    ensures { λ r. ⌜ r ≡ digit h ⌝ }
-{
-    let more: u8 = if h < 10 { 0 } else { 7 };
-    h + 48 + more
 }
 
 // The character of a byte's lower half. By a table: so one character takes one look.
@@ -269,41 +77,6 @@ pub fn low_digit(b: u8) -> u8
     }
 }
 
-// Puts two bytes, and says whether there was room for both.
-fn put_two(dst: &mut [u8], at: usize, first: u8, second: u8) -> bool
-    ensures { λ r. ⌜ (r, now (dst .exit)) ≡ putTwo (now (dst .entry)) at first second ⌝ }
-{
-    if !put_byte(dst, at, first) {
-        return false;
-    }
-    put_byte(dst, at + 1, second)
-}
-
-// Whether a line of n bytes fits.
-fn fits(n: usize, room: usize) -> bool
-    ensures { λ r. ⌜ r ≡ choose (2 * n + 3 ≤? room) true false ⌝ }
-{
-    if room < 3 {
-        return false;
-    }
-    if (room - 3) / 2 < n {
-        return false;
-    }
-    true
-}
-
-// Lays the bytes as text, two characters each, to the places from `at` on.
-fn lay_text(dst: &mut [u8], at: usize, bytes: &[u8])
-    requires { ⌜ at + 2 * length (now bytes) ≤ length (now dst) ⌝ }
-    ensures { λ _. ⌜ now (dst .exit) ≡ sets (now (dst .entry)) at (text (now (bytes .entry))) ⌝ }
-{
-    for i in 0..bytes.len() {
-        let b = bytes[i];
-        dst[at + 2 * i] = character(b >> 4);
-        dst[at + 2 * i + 1] = character(b & 0xf);
-    }
-}
-
 // Puts the bytes as text to the places from `at` on, and says whether there was room for it; else nothing is put.
 pub fn put_text(dst: &mut [u8], at: usize, bytes: &[u8]) -> bool
     ensures { λ r. ⌜ (r, now (dst .exit)) ≡ putText (now (dst .entry)) at (now (bytes .entry)) ⌝ }
@@ -316,38 +89,6 @@ pub fn put_text(dst: &mut [u8], at: usize, bytes: &[u8]) -> bool
     }
     lay_text(dst, at, bytes);
     true
-}
-
-// Writes the data as a line of text into a result that has room for it.
-fn write_line(data: &[u8], result: &mut [u8])
-    requires { ⌜ 2 * length (now «data») + 3 ≤ length (now result) ⌝ }
-    ensures { λ r. ⌜ now (result .exit) ≡ sets (now (result .entry)) 0 (line (now («data» .entry))) ⌝ }
-{
-    result[0] = 58;
-    lay_text(result, 1, data);
-    result[2 * data.len() + 1] = 0x0D;
-    result[2 * data.len() + 2] = 0x0A;
-}
-
-// The same as far as there is room, character by character.
-fn write_while_room(data: &[u8], result: &mut [u8]) -> SizeAnswer
-    ensures { λ r. ⌜ (sizePaper r, now (result .exit)) ≡ generatedInto (now («data» .entry)) (now (result .entry)) ⌝ }
-{
-    if !put_byte(result, 0, 58) {
-        return SizeAnswer::Refused(ErrorKind::OOB);
-    }
-    let mut at: usize = 1;
-    for i in 0..data.len() {
-        let d = data[i];
-        if !put_two(result, at, character(d >> 4), character(d & 0xf)) {
-            return SizeAnswer::Refused(ErrorKind::OOB);
-        }
-        at += 2;
-    }
-    if !put_two(result, at, 0x0D, 0x0A) {
-        return SizeAnswer::Refused(ErrorKind::OOB);
-    }
-    SizeAnswer::Value(at + 2)
 }
 
 // Writes the data as a line of text into the result, and answers how long the line is.

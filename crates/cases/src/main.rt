@@ -1,7 +1,8 @@
 // Runs document 01's cases and both sides of its numbers through the driver. They are read from standard input, one
 // record a line, as the head of the list says. Every case lays its tables afresh, and compares outcome, code, the whole
 // reply buffer and all four tables.
-use dalonjang::Driven;
+use driver::Driven;
+use driver::Setup;
 use octets::byte;
 use octets::word;
 use records::Tally;
@@ -82,18 +83,21 @@ fn called(
     inputs: &[u8],
     reply: &mut [u8],
 ) -> Driven {
+    let setup = Setup {
+        transport: byte(record, 0),
+        unit: byte(record, 1),
+        coil_cells: cells(record, 0),
+        discrete_cells: cells(record, 1),
+        holding_cells: cells(record, 2),
+        input_cells: cells(record, 3),
+    };
     dalonjang::dalonjang_drive(
-        byte(record, 0),
-        byte(record, 1),
+        setup,
         part(record, 0),
         coils,
-        cells(record, 0),
         discretes,
-        cells(record, 1),
         holdings,
-        cells(record, 2),
         inputs,
-        cells(record, 3),
         part(record, 1),
         reply,
     )

@@ -17,8 +17,8 @@
 //                coils, discretes, holdings and inputs: of each length (4), cells (8) and the byte that fills it
 //                behind its front; the front of each
 //   Before the call byte i of the lent response behind its front is (0x5A + i) % 256.
-use crate::parts::part;
-use crate::parts::whole;
+use crate::fields::part;
+use crate::fields::whole;
 use crate::said::bare;
 use crate::said::changes;
 use crate::said::left;

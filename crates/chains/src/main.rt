@@ -2,7 +2,7 @@
 // left. They are read from standard input, one record a line in hexadecimal digits, as the head of calls.rt says. The
 // list beside this program is a sample; bin/frame-runs hands it longer ones.
 mod calls;
-mod parts;
+mod fields;
 mod said;
 mod state;
 

@@ -1,5 +1,5 @@
 // Whether a call answered and left what is expected, in numbers.
-use crate::parts::part;
+use crate::fields::part;
 use crate::state::same_state;
 use external::Data;
 use external::Read;
@@ -35,7 +35,7 @@ pub(crate) fn reported(number: u8) -> Reported {
 }
 
 // The kind and the state.
-fn told(record: &[u8], kind: u8, s: ModbusFrame) -> bool {
+fn kind_and_state(record: &[u8], kind: u8, s: ModbusFrame) -> bool {
     if kind != byte(record, 29) {
         return false;
     }
@@ -47,7 +47,7 @@ pub(crate) fn bare(record: &[u8], kind: u8, s: ModbusFrame) -> bool {
     if part(record, 4).len() != 0 {
         return false;
     }
-    told(record, kind, s)
+    kind_and_state(record, kind, s)
 }
 
 pub(crate) fn left(record: &[u8], l: Left) -> bool {
@@ -91,7 +91,7 @@ pub(crate) fn read_left(record: &[u8], l: ReadLeft) -> bool {
     let s = l.frame;
     match answer {
         ReadAnswer::Refused(k) => bare(record, kind_number(k), s),
-        ReadAnswer::Value(r) => told(record, 0, s) && read(record, r),
+        ReadAnswer::Value(r) => kind_and_state(record, 0, s) && read(record, r),
     }
 }
 
@@ -107,7 +107,7 @@ pub(crate) fn write_left(record: &[u8], l: WriteLeft) -> bool {
     let s = l.frame;
     match answer {
         WriteAnswer::Refused(k) => bare(record, kind_number(k), s),
-        WriteAnswer::Value(w) => told(record, 0, s) && write(record, w),
+        WriteAnswer::Value(w) => kind_and_state(record, 0, s) && write(record, w),
     }
 }
 
@@ -136,8 +136,10 @@ fn data(record: &[u8], of: u16, address: u16, count: u16, d: Data) -> bool {
 
 pub(crate) fn changes(record: &[u8], s: ModbusFrame) -> bool {
     match s.changes() {
-        Changes::Coils(reg, count) => told(record, 0, s) && cells(record, 3, 0, reg, count),
-        Changes::Holdings(reg, count) => told(record, 0, s) && cells(record, 3, 1, reg, count),
+        Changes::Coils { reg, count } => kind_and_state(record, 0, s)
+            && cells(record, 3, 0, reg, count),
+        Changes::Holdings { reg, count } => kind_and_state(record, 0, s)
+            && cells(record, 3, 1, reg, count),
         Changes::Nothing => bare(record, 0, s),
     }
 }

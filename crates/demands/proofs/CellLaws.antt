@@ -1,15 +1,27 @@
--- What a request leaves in each cell, and that nothing else may be left there.
+-- What a request writes, what it leaves in each cell, and that nothing else may be left there.
 -- Assumes nothing.
 use mathlib.Core.Logic.{inl, inr, by-cases}
 use mathlib.Core.Path.{_≡_, refl, ap, ap₂, sym, _∙_, subst, fun-ext}
 use mathlib.Core.List.{List, [], _∷_, List·Memᴰ, List·Memᴰ·head, List·Memᴰ·tail, List·Memᴰ·not-nil, List·Memᴰ·cases-cons, List·Memᴰ·eq-of-singleton}
 use Prim.Native.Nat.{ℕ, _-_, _<_}
 use native.Mathlib.Omega.{arith}
-use lib.ListN.{getD}
-use Rattle.modbus.specs.Table.{Tables, Tab, Range, Hits, hits?, assign}
-use Rattle.modbus.specs.Request.{Ask, read, write, writes, writing, given, apply}
+use lib.ListN.{length, getD}
+use Rattle.modbus.specs.Bytes.{All}
+use Rattle.modbus.specs.Table.{Kind, target, Fits, Tables, Tab, Range, Hits, hits?, assign}
+use Rattle.modbus.specs.Request.{Ask, read, write, writes, Permitted, writing, given, assigned, apply}
 use Rattle.modbus.proofs.StepLaws.{pick-yes, pick-no}
 use Rattle.demands.specs.Demand.{Stored}
+
+-- no cells, or a run of coils or holdings with a value for each
+pub data Run : List Range → List ℕ → Type 0 where
+  nothing : {vs : List ℕ} → Run [] vs
+  run : (k : Kind) (s : ℕ) (vs : List ℕ) → All (Fits k) vs → Run (record { tab = target k; first = s; count = length vs } ∷ []) vs
+
+-- what a permitted request writes, where the tables before it are T
+pub run-of : (a : Ask) (T : Tables) → Permitted a → Run (writing a) (given a T)
+run-of (read t s n) T p = nothing
+run-of (write k a v) T p = run k a (v ∷ []) (p, tt)
+run-of (writes k s vs) T p = run k s vs (p .2)
 
 pub outside : (r : Range) (vs : List ℕ) (t : Tables) (tab : Tab) (i : ℕ) → ¬ Hits r tab i → assign r vs t tab i ≡ t tab i
 outside r vs t tab i n = pick-no _ _ _ n
@@ -27,10 +39,12 @@ one-stored r vs t =
       keeps = λ tab i n. outside r vs t tab i (n r (List·Memᴰ·head refl));
     }
 
-pub apply-stored : (a : Ask) (t : Tables) → Stored (writing a) (given a) t (apply a t)
-apply-stored (read tab s n) t = none-stored [] t
-apply-stored (write k a v) t = one-stored _ _ t
-apply-stored (writes k s vs) t = one-stored _ _ t
+run-stored : {l : List Range} {vs : List ℕ} (t : Tables) → Run l vs → Stored l vs t (assigned l vs t)
+run-stored t nothing = none-stored _ t
+run-stored t (run k s vs f) = one-stored _ vs t
+
+pub apply-stored : (a : Ask) (t : Tables) → Permitted a → Stored (writing a) (given a t) t (apply a t)
+apply-stored a t p = run-stored t (run-of a t p)
 
 -- a cell is in one of the ranges, or in none
 hit-or : {C : Type 0} (l : List Range) (tab : Tab) (i : ℕ) → ((r : Range) → List·Memᴰ r l → Hits r tab i → C)

@@ -11,8 +11,8 @@ use borrow.Fn.Kinds.{Dens, resT, endedOf}
 use denote.Triple.Clauses.{Lasts, atExit}
 use Rattle.modbus.specs.Bytes.{Bytes}
 use Rattle.modbus.specs.Setup.{Setup, Valid, Roomy}
-use Rattle.tables.specs.Lent.{Lent, lentOf, tablesOf}
-use Rattle.driver.specs.Driven.{paper, setupOf, Given, given}
+use Rattle.tables.specs.Lent.{Lent, tablesOf}
+use Rattle.driver.specs.Driven.{lentIn, setupOf, Leaves, leaving}
 use Rattle.driver.proofs.drive.Kinds as drive-kinds
 use Rattle.driver.proofs.drive.Reads as drive-reads
 use Rattle.demands.specs.Demand.{Demand3}
@@ -24,30 +24,28 @@ use Rattle.demands.proofs.OnBytes.{demand-on-bytes, refused-on-bytes, k
 module _ (κs : Lfts 7) (a : Dens κs drive-kinds.ps) (x : resT drive-kinds.r κs .Denot) (u : Lasts (endedOf 7 drive-kinds.ps drive-kinds.r) κs a)
     (post : drive-reads.Post κs a x (atExit (endedOf 7 drive-kinds.ps drive-kinds.r) κs a u)) where
   abbrev pub lent : Lent
-  lent =
-      lentOf (now (a .1 .1 .1 .0)) (a .1 .1 .1 .1 .0) (now (a .1 .1 .1 .1 .1 .0)) (a .1 .1 .1 .1 .1 .1 .0)
-      (now (a .1 .1 .1 .1 .1 .1 .1 .0)) (a .1 .1 .1 .1 .1 .1 .1 .1 .0) (now (a .1 .1 .1 .1 .1 .1 .1 .1 .1 .0)) (a .1 .1 .1 .1 .1 .1 .1 .1 .1 .1 .0)
+  lent = lentIn (a .0) (now (a .1 .1 .0)) (now (a .1 .1 .1 .0)) (now (a .1 .1 .1 .1 .0)) (now (a .1 .1 .1 .1 .1 .0))
 
   abbrev pub frame : List ℕ
-  frame = now (a .1 .1 .1 .1 .1 .1 .1 .1 .1 .1 .1 .0)
+  frame = now (a .1 .1 .1 .1 .1 .1 .0)
 
   abbrev pub reply : List ℕ
-  reply = now (a .1 .1 .1 .1 .1 .1 .1 .1 .1 .1 .1 .1 .0)
+  reply = now (a .1 .1 .1 .1 .1 .1 .1 .0)
 
   abbrev pub setup : Setup
-  setup = setupOf (a .0) (a .1 .0) (now (a .1 .1 .0)) lent reply
+  setup = setupOf (a .0) (now (a .1 .0)) lent reply
 
-  -- the outcome, and the reply buffer, the coils and the holdings at the exit
-  abbrev pub left : Given
-  left = given (paper x) (u .1 .1 .1 .1 .1 .1 .1 .1 .1 .1 .1 .1 .0) (u .1 .1 .1 .0) (u .1 .1 .1 .1 .1 .1 .1 .0)
+  -- the result, and the reply buffer, the coils and the holdings at the exit
+  abbrev pub left : Leaves
+  left = leaving x (u .1 .1 .1 .1 .1 .1 .1 .0) (u .1 .1 .0) (u .1 .1 .1 .1 .0)
 
   module _ (frameBytes : Bytes frame) (holdingBytes : Bytes (lent .holdingBytes)) (inputBytes : Bytes (lent .inputBytes)) where
     pub third : Valid setup → Roomy setup → Demand3 setup (tablesOf lent) frame (showed lent left)
-    third valid roomy = demand-on-bytes _ _ _ lent frame reply frameBytes _ post holdingBytes inputBytes valid roomy
+    third valid roomy = demand-on-bytes (a .0) _ lent frame reply frameBytes _ post holdingBytes inputBytes valid roomy
 
-    pub refused : (2 ≤ left .numbers .0)
-        ↔ Refusal setup frame (left .numbers .0) (left .numbers .1) (take (left .numbers .2) (left .replyBytes))
-    refused = refused-on-bytes _ _ _ lent frame reply frameBytes _ post holdingBytes inputBytes
+    pub refused : (2 ≤ left .result .outcome)
+        ↔ Refusal setup frame (left .result .outcome) (left .result .code) (take (left .result .length) (left .replyBytes))
+    refused = refused-on-bytes (a .0) _ lent frame reply frameBytes _ post holdingBytes inputBytes
 
     pub kept : Kept setup lent frame reply left
-    kept = kept-on-bytes _ _ _ lent frame reply frameBytes _ post holdingBytes inputBytes
+    kept = kept-on-bytes (a .0) _ lent frame reply frameBytes _ post holdingBytes inputBytes

@@ -6,21 +6,22 @@ use mathlib.Core.List.{List, [], _∷_}
 use Prim.Native.Nat.{ℕ, _≤_}
 use native.Mathlib.Omega.{arith}
 use lib.ListN.{drop}
-use Rattle.modbus.specs.Step.{stop, go, _>>=_, _>>_, _and?_}
+use Rattle.modbus.specs.Step.{stop, go, _and?_}
 use Rattle.modbus.specs.Bytes.{Bytes}
 use Rattle.modbus.specs.Table.{Tables}
-use Rattle.modbus.specs.Request.{Fn, code, functions, Ask, fnOf, exception}
+use Rattle.modbus.specs.Request.{Fn, code, offered, Ask, fnOf, exception}
 use Rattle.modbus.specs.Frame.{Framed}
 use Rattle.modbus.specs.Setup.{Setup, proto, Valid, Roomy}
 use Rattle.modbus.specs.Unit.{Broadcast, broadcast?, Ours}
-use Rattle.modbus.specs.Decode.{Message, unitOf, numberOf, Silent, readIgnored, foreign, frameBroken, frameCheck, wrongLength, badFunction, noRoom, badSetup, number, unwrap, IsRead, isRead?, asked}
+use Rattle.modbus.specs.Decode.{Message, unitOf, numberOf, Silent, readIgnored, foreign, frameBroken, frameCheck, wrongLength, badFunction, noRoom, badSetup, outcomeOf, unwrap, IsRead, isRead?, asked}
 use Rattle.modbus.specs.Drive.{Fault, quiet, coded, find, fromFunction, fromUnit, judge, Result, silently, replying, settle, drive}
 use Rattle.modbus.proofs.StepLaws.{pass, fail, follow, halt, bound, needed, bound-stop, needed-stop, pick-yes, pick-no, either}
 use Rattle.modbus.proofs.RequestLaws.{asked-says, says-heard, fn-asked}
 use Rattle.modbus.proofs.FrameLaws.{sound, complete}
-use Rattle.modbus.proofs.DriveLaws.{quietly-go, quietly-stop, went-quietly, stopped-quietly, code-low, find-fn, found-fn, find-none, found-none, found-fault}
+use Rattle.modbus.proofs.FindLaws.{code-low, find-fn, found-fn, find-none, found-none, found-fault}
+use Rattle.modbus.proofs.DriveLaws.{quietly-go, quietly-stop, went-quietly, stopped-quietly}
 use Rattle.demands.specs.Demand.{Request, Addressed, Serves}
-use Rattle.demands.specs.Order.{Sent, Known, Coded, told, ignored, Refusal, bad-setup, no-room, frame-broken, frame-check, foreign as foreign-unit, bad-function, no-function, read-ignored, wrong-length, bad-value, bad-address}
+use Rattle.demands.specs.Order.{Sent, Known, Coded, exception-sent, ignored, Refusal, bad-setup, no-room, frame-broken, frame-check, foreign as foreign-unit, bad-function, no-function, read-ignored, wrong-length, bad-value, bad-address}
 use Rattle.demands.proofs.ShapeLaws.{broken, unchecked, faults}
 
 module _ (s : Setup) (f : List ℕ) where
@@ -35,7 +36,7 @@ module _ (s : Setup) (f : List ℕ) where
       judge-sent m (h .sent)
       ∙ pass _ _ _ (h .reached)
       ∙ pass _ _ _ low
-      ∙ follow _ _ (find-fn _ _ fn (h .called))
+      ∙ follow _ _ (find-fn _ _ (proto s) fn (h .called))
       ∙ pass _ _ _ (h .heeded)
 
 -- ---- what is served
@@ -72,7 +73,7 @@ module _ (s : Setup) (f : List ℕ) (y : Bytes f) where
       needed _ _ _ e₈ λ valued e₉.
       needed _ _ _ e₉ λ inside e₁₀.
       let framed = sound _ f n y (went-quietly _ unwrapped) in
-      let says = asked-says fn (n .body) (framed .bytes) (found-fn _ _ _ fn called) lengthy valued in
+      let says = asked-says fn (n .body) (framed .bytes) (found-fn code _ _ _ fn called) lengthy valued in
       let z : _≡_ {A = Message × Ask} (n, asked fn (n .body)) (m, a) = cc in
       subst (λ w. Serves s f (requested (w .0) (w .1))) z
       (record {
@@ -104,44 +105,44 @@ module _ (s : Setup) (f : List ℕ) where
 -- ---- what is refused
 
 -- the driver's outcome, code and reply
-abbrev pub Given : Setup → Tables → List ℕ → ℕ → ℕ → List ℕ → Type 0
-Given s t f o c r = (drive s t f .outcome ≡ o) × (drive s t f .exceptionCode ≡ c) × (drive s t f .reply ≡ r)
+abbrev pub Returns : Setup → Tables → List ℕ → ℕ → ℕ → List ℕ → Type 0
+Returns s t f o c r = (drive s t f .outcome ≡ o) × (drive s t f .exceptionCode ≡ c) × (drive s t f .reply ≡ r)
 
 module _ (s : Setup) (t : Tables) (f : List ℕ) where
-  quiet-given : (o : Silent) → judge s f ≡ stop (quiet o) → Given s t f (number o) 0 []
+  quiet-returns : (o : Silent) → judge s f ≡ stop (quiet o) → Returns s t f (outcomeOf o) 0 []
   unfolding drive settle
-  quiet-given o e = rw e (refl, refl, refl)
+  quiet-returns o e = rw e (refl, refl, refl)
 
-  coded-given : {m : Message} {o c : ℕ} {r : List ℕ} → Coded s m o c r → judge s f ≡ stop (coded m c) → Given s t f o c r
+  coded-returns : {m : Message} {o c : ℕ} {r : List ℕ} → Coded s m o c r → judge s f ≡ stop (coded m c) → Returns s t f o c r
   unfolding drive settle
-  coded-given {m} (told c n) e =
+  coded-returns {m} (exception-sent c n) e =
       let w : drive s t f ≡ replying s m 2 c (exception (numberOf m) c) t = ap (settle s t) e ∙ pick-no _ _ _ n in
       rw w (refl, refl, refl)
-  coded-given {m} (ignored c b) e =
+  coded-returns {m} (ignored c b) e =
       let w : drive s t f ≡ silently 3 c t = ap (settle s t) e ∙ pick-yes _ _ _ b in
       rw w (refl, refl, refl)
 
-  pub refusal-given : Bytes f → {o c : ℕ} {r : List ℕ} → Refusal s f o c r → Given s t f o c r
+  pub refusal-returns : Bytes f → {o c : ℕ} {r : List ℕ} → Refusal s f o c r → Returns s t f o c r
   unfolding judge
-  refusal-given y (bad-setup n) = quiet-given badSetup (fail _ _ _ n)
-  refusal-given y (no-room v n) = quiet-given noRoom (pass _ _ _ v ∙ fail _ _ _ n)
-  refusal-given y (frame-broken v r n) =
-      quiet-given frameBroken (pass _ _ _ v ∙ pass _ _ _ r ∙ halt _ _ (quietly-stop _ (broken (proto s) f .1 n)))
-  refusal-given y (frame-check v r h n) =
-      quiet-given frameCheck (pass _ _ _ v ∙ pass _ _ _ r ∙ halt _ _ (quietly-stop _ (unchecked (proto s) f y .1 (h, n))))
-  refusal-given y (foreign-unit m h n k) =
-      quiet-given foreign (judge-sent s f m h ∙ fail _ _ _ (λ r. elim r [ inl b ↦ n b | inr o ↦ k o ]))
-  refusal-given y (bad-function m h r k) =
-      quiet-given badFunction (judge-sent s f m h ∙ pass _ _ _ r ∙ fail _ _ _ (λ (l : numberOf m ≤ 127). omega arith))
-  refusal-given y (no-function m h r l n c) =
-      coded-given c (judge-sent s f m h ∙ pass _ _ _ r ∙ pass _ _ _ l ∙ halt _ _ (find-none _ _ n functions))
-  refusal-given y (read-ignored m fn h b e i) =
+  refusal-returns y (bad-setup n) = quiet-returns badSetup (fail _ _ _ n)
+  refusal-returns y (no-room v n) = quiet-returns noRoom (pass _ _ _ v ∙ fail _ _ _ n)
+  refusal-returns y (frame-broken v r n) =
+      quiet-returns frameBroken (pass _ _ _ v ∙ pass _ _ _ r ∙ halt _ _ (quietly-stop _ (broken (proto s) f .1 n)))
+  refusal-returns y (frame-check v r h n) =
+      quiet-returns frameCheck (pass _ _ _ v ∙ pass _ _ _ r ∙ halt _ _ (quietly-stop _ (unchecked (proto s) f y .1 (h, n))))
+  refusal-returns y (foreign-unit m h n k) =
+      quiet-returns foreign (judge-sent s f m h ∙ fail _ _ _ (λ r. elim r [ inl b ↦ n b | inr o ↦ k o ]))
+  refusal-returns y (bad-function m h r k) =
+      quiet-returns badFunction (judge-sent s f m h ∙ pass _ _ _ r ∙ fail _ _ _ (λ (l : numberOf m ≤ 127). omega arith))
+  refusal-returns y (no-function m h r l n c) =
+      coded-returns c (judge-sent s f m h ∙ pass _ _ _ r ∙ pass _ _ _ l ∙ halt _ _ (find-none code _ _ n (offered (proto s))))
+  refusal-returns y (read-ignored m fn h b e i) =
       let low : numberOf m ≤ 127 = rw e (code-low fn) in
-      quiet-given readIgnored
-      (judge-sent s f m h ∙ pass _ _ _ (inl b) ∙ pass _ _ _ low ∙ follow _ _ (find-fn _ _ fn e) ∙ fail _ _ _ (λ n. n (b, i)))
-  refusal-given y (wrong-length m fn h n) = quiet-given wrongLength (judge-known s f m fn h ∙ fail _ _ _ n)
-  refusal-given y (bad-value m fn h l n c) = coded-given c (judge-known s f m fn h ∙ pass _ _ _ l ∙ fail _ _ _ n)
-  refusal-given y (bad-address m fn h l v n c) = coded-given c (judge-known s f m fn h ∙ pass _ _ _ l ∙ pass _ _ _ v ∙ fail _ _ _ n)
+      quiet-returns readIgnored
+      (judge-sent s f m h ∙ pass _ _ _ (inl b) ∙ pass _ _ _ low ∙ follow _ _ (find-fn _ _ (proto s) fn e) ∙ fail _ _ _ (λ n. n (b, i)))
+  refusal-returns y (wrong-length m fn h n) = quiet-returns wrongLength (judge-known s f m fn h ∙ fail _ _ _ n)
+  refusal-returns y (bad-value m fn h l n c) = coded-returns c (judge-known s f m fn h ∙ pass _ _ _ l ∙ fail _ _ _ n)
+  refusal-returns y (bad-address m fn h l v n c) = coded-returns c (judge-known s f m fn h ∙ pass _ _ _ l ∙ pass _ _ _ v ∙ fail _ _ _ n)
 
   -- the refusal that a fault is settled as
   abbrev Refused : Fault → Type 0
@@ -152,7 +153,7 @@ module _ (s : Setup) (t : Tables) (f : List ℕ) where
   coded-refused m c k =
       either (λ (r : Result). Refusal s f (r .outcome) (r .exceptionCode) (r .reply)) _ _ _
       (λ b. k _ _ (ignored c b))
-      (λ n. k _ _ (told c n))
+      (λ n. k _ _ (exception-sent c n))
 
   frame-refused : Bytes f → Valid s → Roomy s → (o : Silent) → unwrap (proto s) f ≡ stop o → Refused (quiet o)
   unfolding settle
@@ -163,9 +164,10 @@ module _ (s : Setup) (t : Tables) (f : List ℕ) where
       by (inr q) = let (h, n) = unchecked (proto s) f y .0 (rw q at e) in rw q (frame-check v r h n)
 
   function-refused : (m : Message) → Sent s f m → Broadcast s (unitOf m) ⊎ Ours s (unitOf m) → numberOf m ≤ 127 → {x : Fault}
-      → find (coded m 1) (numberOf m) functions ≡ stop x → Refused x
+      → find code (coded m 1) (numberOf m) (offered (proto s)) ≡ stop x → Refused x
   function-refused m h r l e =
-      subst Refused (found-fault _ _ functions e) (coded-refused m 1 λ _ _ c. no-function m h r l (found-none _ _ e) c)
+      let none = found-none code _ _ (offered (proto s)) (find-fn _ _ (proto s)) e in
+      subst Refused (found-fault code _ _ (offered (proto s)) e) (coded-refused m 1 λ _ _ c. no-function m h r l none c)
 
   read-refused : (m : Message) (fn : Fn) → Sent s f m → numberOf m ≡ code fn → ¬ (¬ (Broadcast s (unitOf m) × IsRead fn))
       → Refused (quiet readIgnored)
@@ -183,7 +185,7 @@ module _ (s : Setup) (t : Tables) (f : List ℕ) where
       needed-stop _ _ _ e₃ (λ n q. subst Refused q (foreign-unit m sent (λ b. n (inl b)) (λ o. n (inr o)))) λ reached e₄.
       needed-stop _ _ _ e₄ (λ n q. subst Refused q (bad-function m sent reached (omega (arith, n)))) λ low e₅.
       bound-stop _ _ e₅ (λ q. function-refused m sent reached low q) λ fn found e₆.
-      let called = found-fn _ _ _ fn found in
+      let called = found-fn code _ _ _ fn found in
       needed-stop _ _ _ e₆ (λ n q. subst Refused q (read-refused m fn sent called n)) λ heeded e₇.
       let known : Known s f m fn = record { sent = sent; reached = reached; called = called; heeded = heeded } in
       needed-stop _ _ _ e₇ (λ n q. subst Refused q (wrong-length m fn known n)) λ lengthy e₈.

@@ -3,9 +3,9 @@
 -- tables are bytes, as those of every lent slice are; this is a hypothesis here.
 -- Assumes nothing.
 use mathlib.Core.Logic.{_↔_, by-cases}
-use mathlib.Core.Path.{_≡_, refl, ap, sym, _∙_}
+use mathlib.Core.Path.{_≡_, refl, ap, sym, _∙_, subst}
 use mathlib.Core.List.{List, _++_}
-use Prim.Native.Nat.{ℕ, _*_, _/_, _≤_, _<_}
+use Prim.Native.Nat.{ℕ, _*_, _≤_, _<_}
 use native.Mathlib.Omega.{arith}
 use native.Mathlib.Nat.{zero-add}
 use lib.ListN.{length, take, drop, getD}
@@ -13,7 +13,7 @@ use lib.Seq.{sets, sets-eq, length-sets, take-append-seam, drop-append-seam}
 use Rattle.modbus.specs.Step.{go}
 use Rattle.modbus.specs.Bytes.{Bytes}
 use Rattle.modbus.specs.Table.{Tables, Tab, coils, discretes, holdings, inputs}
-use Rattle.modbus.specs.Request.{Ask, apply}
+use Rattle.modbus.specs.Request.{Ask, writing, apply}
 use Rattle.modbus.specs.Storage.{registerAt}
 use Rattle.modbus.specs.Setup.{Setup, Valid, valid?, Roomy, roomy?}
 use Rattle.modbus.specs.Decode.{Message}
@@ -23,16 +23,17 @@ use Rattle.modbus.proofs.BytesLaws.{word-at}
 use Rattle.modbus.proofs.StorageLaws.{coil-bit}
 use Rattle.modbus.proofs.AnswerLaws.{Proper}
 use Rattle.modbus.proofs.DriveLaws.{stop-after, go-low, go-after, by-judge}
-use Rattle.tables.specs.Lent.{Lent, cellsOf, tablesOf}
-use Rattle.driver.specs.Driven.{setupOf, coilsBy, holdingsBy, Given, given, told, driven, called}
+use Rattle.tables.specs.Lent.{Lent, tableOf, cellsOf, tablesOf}
+use Rattle.driver.specs.Driven.{setupOf, bytesBy, resultOf, Leaves, leaving, driven, called}
+use Rattle.driver.specs.declared.Setup.{Setup as Numbers}
 use Rattle.demands.specs.Demand.{Demand3}
 use Rattle.demands.specs.Order.{Refusal, bad-setup, no-room}
 use Rattle.demands.specs.OnBytes.{lentAfter, showed, refusing, Unwritten, Kept}
-use Rattle.demands.proofs.CellLaws.{apply-stored, same-cells}
-use Rattle.demands.proofs.Judge.{requested, judge-serves, refusal-given}
+use Rattle.demands.proofs.CellLaws.{run-of, apply-stored, same-cells}
+use Rattle.demands.proofs.Judge.{requested, judge-serves, refusal-returns}
 use Rattle.demands.proofs.Exactly.{refusal-high, exactly}
 use Rattle.demands.proofs.Replies.{reply-room}
-use Rattle.demands.proofs.StoredLaws.{ask-stored, coils-length, holdings-length, coils-free, holdings-free, spare-free}
+use Rattle.demands.proofs.StoredLaws.{Part, ask-stored, stored-length, stored-free, spare-free}
 use Rattle.demands.proofs.Third.{demand-3}
 
 judge-valid : (s : Setup) (f : List ℕ) {w : Message × Ask} → judge s f ≡ go w → Valid s
@@ -53,19 +54,19 @@ fits s t f y p =
     by-cases (roomy? s)
     (λ r. omega (arith, reply-room s t f y p))
     (λ n. by-cases (valid? s)
-    (λ v. let e = refusal-given s t f y (no-room v n) .2 in rw e (omega arith))
-    (λ w. let e = refusal-given s t f y (bad-setup w) .2 in rw e (omega arith)))
+    (λ v. let e = refusal-returns s t f y (no-room v n) .2 in rw e (omega arith))
+    (λ w. let e = refusal-returns s t f y (bad-setup w) .2 in rw e (omega arith)))
 
 front : (l vs : List ℕ) → length vs ≤ length l → sets l 0 vs ≡ vs ++ drop (length vs) l
 front l vs h = sets-eq vs l 0 (omega arith) ∙ rw zero-add
 
-module _ (transport unit : ℕ) (list : List ℕ) (l : Lent) (frame reply : List ℕ) (y : Bytes frame) where
+module _ (n : Numbers) (list : List ℕ) (l : Lent) (frame reply : List ℕ) (y : Bytes frame) where
   abbrev s : Setup
-  s = setupOf transport unit list l reply
+  s = setupOf n list l reply
 
   -- what the call gives on bytes, and what the definitions say on cells
-  abbrev call : Given
-  call = called transport unit list l frame reply
+  abbrev call : Leaves
+  call = called n list l frame reply
 
   abbrev due : Result
   due = drive s (tablesOf l) frame
@@ -81,42 +82,38 @@ module _ (transport unit : ℕ) (list : List ℕ) (l : Lent) (frame reply : List
       let h = judge-serves s frame y m a e in
       rw (e, go-after s (tablesOf l) m a)
       (same-cells
-      (ask-stored transport unit list l reply (judge-valid s frame e) a (h .permitted) (h .inside))
-      (apply-stored a (tablesOf l))))
+      (ask-stored s l (judge-valid s frame e) (λ t. refl) a (h .permitted) (h .inside))
+      (apply-stored a (tablesOf l) (h .permitted))))
 
   call-lengths : (length (call .coilBytes) ≡ length (l .coilBytes)) × (length (call .holdingBytes) ≡ length (l .holdingBytes))
   unfolding driven
   call-lengths =
       by-judge s frame
       (λ x e. rw e (refl, refl))
-      (λ m a e. rw e (coils-length a (l .coilBytes), holdings-length a (l .holdingBytes)))
+      (λ m a e. rw e (stored-length coils (writing a) _ _, stored-length holdings (writing a) _ _))
 
   outside-cells : (tab : Tab) (i : ℕ) → Unwritten s frame tab i → tablesOf (lentAfter l call) tab i ≡ tablesOf l tab i
   unfolding drive
-  outside-cells tab i n =
+  outside-cells tab i free =
       ap (λ (t : Tables). t tab i) call-after
       ∙ by-judge s frame
       (λ x e. rw (e, stop-after s (tablesOf l) x))
       (λ m a e.
-      let free = n (requested m a) (judge-serves s frame y m a e) in
-      rw (e, go-after s (tablesOf l) m a) (apply-stored a (tablesOf l) .keeps tab i free))
+      let h = judge-serves s frame y m a e in
+      rw (e, go-after s (tablesOf l) m a) (apply-stored a (tablesOf l) (h .permitted) .keeps tab i (free (requested m a) h)))
 
-  outside-coils : (b : ℕ) → ((i : ℕ) → b ≡ i / 8 → Unwritten s frame coils i) → getD (call .coilBytes) b 0 ≡ getD (l .coilBytes) b 0
-  unfolding driven
-  outside-coils b n =
+  -- a byte that is part of no cell written
+  outside-byte : (t : Tab) (b : ℕ) → ((i : ℕ) → Part t b i → Unwritten s frame t i)
+      → getD (bytesBy l (judge s frame) t) b 0 ≡ getD (tableOf l t) b 0
+  outside-byte t b free =
       by-judge s frame
       (λ x e. rw e)
-      (λ m a e. rw e (coils-free a (l .coilBytes) b (λ i q. n i q (requested m a) (judge-serves s frame y m a e))))
-
-  outside-holdings : (b : ℕ) → Unwritten s frame holdings (b / 2) → getD (call .holdingBytes) b 0 ≡ getD (l .holdingBytes) b 0
-  unfolding driven
-  outside-holdings b n =
-      by-judge s frame
-      (λ x e. rw e)
-      (λ m a e. rw e (holdings-free a (l .holdingBytes) b (n (requested m a) (judge-serves s frame y m a e))))
+      (λ m a e.
+      let h = judge-serves s frame y m a e in
+      rw e (stored-free t b (run-of a (tablesOf l) (h .permitted)) (tableOf l t) (λ i q. free i q (requested m a) h)))
 
   spare-unwritten : (tab : Tab) (i : ℕ) → cellsOf l tab ≤ i → Unwritten s frame tab i
-  spare-unwritten tab i n q v = spare-free s tab i n (q .ask) (v .inside)
+  spare-unwritten tab i high q v = spare-free s tab i high (q .ask) (v .inside)
 
   -- ---- the numbers and the reply
 
@@ -129,21 +126,21 @@ module _ (transport unit : ℕ) (list : List ℕ) (l : Lent) (frame reply : List
     due-fits = fits s (tablesOf l) frame y (proper l h k)
 
     call-laid : call
-        ≡ given (told due) (due .reply ++ drop (length (due .reply)) reply)
-        (coilsBy (judge s frame) (l .coilBytes)) (holdingsBy (judge s frame) (l .holdingBytes))
+        ≡ leaving (resultOf due) (due .reply ++ drop (length (due .reply)) reply)
+        (bytesBy l (judge s frame) coils) (bytesBy l (judge s frame) holdings)
     unfolding driven drive
     call-laid =
         ap
-        (λ b. given (told due) b (coilsBy (judge s frame) (l .coilBytes)) (holdingsBy (judge s frame) (l .holdingBytes)))
+        (λ b. leaving (resultOf due) b (bytesBy l (judge s frame) coils) (bytesBy l (judge s frame) holdings))
         (front reply (due .reply) due-fits)
 
-    call-reply : take (call .numbers .2) (call .replyBytes) ≡ due .reply
+    call-reply : take (call .result .length) (call .replyBytes) ≡ due .reply
     call-reply = rw call-laid (take-append-seam (due .reply) _)
 
-    call-rest : drop (call .numbers .2) (call .replyBytes) ≡ drop (call .numbers .2) reply
+    call-rest : drop (call .result .length) (call .replyBytes) ≡ drop (call .result .length) reply
     call-rest = rw call-laid (drop-append-seam (due .reply) _)
 
-    call-fits : call .numbers .2 ≤ length reply
+    call-fits : call .result .length ≤ length reply
     call-fits = rw call-laid due-fits
 
     call-due : showed l call ≡ due
@@ -160,7 +157,7 @@ module _ (transport unit : ℕ) (list : List ℕ) (l : Lent) (frame reply : List
 
   -- ---- any call that the contract allows
 
-  module _ (g : Given) (e : g ≡ call) where
+  module _ (g : Leaves) (e : g ≡ call) where
     -- the cells of the bytes after a served request, spare ones included
     pub cells-after : (m : Message) (a : Ask) → judge s frame ≡ go (m, a) → (tab : Tab) (i : ℕ)
         → tablesOf (lentAfter l g) tab i ≡ apply a (tablesOf l) tab i
@@ -178,7 +175,8 @@ module _ (transport unit : ℕ) (list : List ℕ) (l : Lent) (frame reply : List
       demand-on-bytes v r = rw showed-drive (demand-3 s (tablesOf l) frame y v r)
 
       -- an outcome from 2 on is a refusal that is due, whatever the setup
-      pub refused-on-bytes : (2 ≤ g .numbers .0) ↔ Refusal s frame (g .numbers .0) (g .numbers .1) (take (g .numbers .2) (g .replyBytes))
+      pub refused-on-bytes : (2 ≤ g .result .outcome)
+          ↔ Refusal s frame (g .result .outcome) (g .result .code) (take (g .result .length) (g .replyBytes))
       refused-on-bytes = (
         λ high.
             let z : due ≡ showed l g = sym showed-drive in
@@ -191,7 +189,7 @@ module _ (transport unit : ℕ) (list : List ℕ) (l : Lent) (frame reply : List
       pub refusals-on-bytes : (o c : ℕ) (r : List ℕ) → 2 ≤ o → Refusal s frame o c r ↔ (g ≡ refusing l reply o c r)
       refusals-on-bytes o c r high = (
         λ q.
-            let (p, w, x) = refusal-given s (tablesOf l) frame y q in
+            let (p, w, x) = refusal-returns s (tablesOf l) frame y q in
             e ∙ rw (p, w, x) at (call-refusing h k (rw p high)),
         λ q.
             let z : due ≡ showed l (refusing l reply o c r) = sym showed-drive ∙ ap (showed l) q in
@@ -200,6 +198,7 @@ module _ (transport unit : ℕ) (list : List ℕ) (l : Lent) (frame reply : List
       )
 
       pub kept-on-bytes : Kept s l frame reply g
+      unfolding driven
       kept-on-bytes =
           rw e
           (record {
@@ -209,8 +208,8 @@ module _ (transport unit : ℕ) (list : List ℕ) (l : Lent) (frame reply : List
             replyFits = call-fits h k;
             replyRest = call-rest h k;
             coilsOutside = outside-cells coils;
-            holdingsOutside = outside-holdings;
-            spareBits = λ i n. outside-cells coils i (spare-unwritten coils i n);
-            spareCoilBytes = λ b n. outside-coils b (λ i q. spare-unwritten coils i (omega arith));
-            spareHoldingBytes = λ b n. outside-holdings b (spare-unwritten holdings (b / 2) (omega arith));
+            holdingsOutside = λ b free. outside-byte holdings b (λ i q. subst (λ (j : ℕ). Unwritten s frame holdings j) q free);
+            spareBits = λ i high. outside-cells coils i (spare-unwritten coils i high);
+            spareCoilBytes = λ b high. outside-byte coils b (λ i q. spare-unwritten coils i (omega arith));
+            spareHoldingBytes = λ b high. outside-byte holdings b (λ i q. spare-unwritten holdings i (omega arith));
           })

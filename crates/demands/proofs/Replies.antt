@@ -9,7 +9,7 @@ use lib.ListN.{length}
 use Rattle.modbus.specs.Step.{go}
 use Rattle.modbus.specs.Bytes.{Bytes}
 use Rattle.modbus.specs.Table.{Tables}
-use Rattle.modbus.specs.Request.{Ask, answer, apply, found, exception}
+use Rattle.modbus.specs.Request.{Ask, answer, apply, seen, found, exception}
 use Rattle.modbus.specs.Frame.{wrap, tagLength, around}
 use Rattle.modbus.specs.Setup.{Setup, proto, roomFor}
 use Rattle.modbus.specs.Decode.{Message, unitOf, numberOf}
@@ -20,8 +20,9 @@ use Rattle.modbus.proofs.StepLaws.{either}
 use Rattle.modbus.proofs.BytesLaws.{byte-at}
 use Rattle.modbus.proofs.FrameLaws.{length-wrap, bytes-wrap, bytes-tag}
 use Rattle.modbus.proofs.AnswerLaws.{Proper, answer-fits}
-use Rattle.modbus.proofs.DriveLaws.{code-low, by-judge}
-use Rattle.demands.specs.Order.{Sent, Coded, told, ignored, Refusal, bad-setup, no-room, frame-broken, frame-check, foreign, bad-function, no-function, read-ignored, wrong-length, bad-value, bad-address}
+use Rattle.modbus.proofs.DriveLaws.{by-judge}
+use Rattle.modbus.proofs.FindLaws.{code-low}
+use Rattle.demands.specs.Order.{Sent, Coded, exception-sent, ignored, Refusal, bad-setup, no-room, frame-broken, frame-check, foreign, bad-function, no-function, read-ignored, wrong-length, bad-value, bad-address}
 use Rattle.demands.proofs.Judge.{judge-serves, judge-refused}
 
 -- what is around the reply's body: 3 to 253 bytes from the unit on
@@ -43,7 +44,7 @@ Replied p reply = (reply ≡ []) ⊎ Framing p reply
 module _ (s : Setup) (f : List ℕ) (y : Bytes f) where
   coded-replied : {m : Message} {o c : ℕ} {r : List ℕ} → Sent s f m → numberOf m ≤ 127 → c ≤ 3 → Coded s m o c r → Replied (proto s) r
   coded-replied {m} h low small (ignored c b) = inl refl
-  coded-replied {m} h low small (told c n) =
+  coded-replied {m} h low small (exception-sent c n) =
       inr (record {
         tag = m .tag;
         body = unitOf m ∷ exception (numberOf m) c;
@@ -72,14 +73,14 @@ module _ (s : Setup) (f : List ℕ) (y : Bytes f) where
 
 module _ (s : Setup) (t : Tables) (f : List ℕ) (y : Bytes f) (proper : Proper t) where
   served-framing : (m : Message) (a : Ask) → judge s f ≡ go (m, a)
-      → Framing (proto s) (wrap (proto s) (m .tag) (unitOf m ∷ answer a (found a (apply a t))))
+      → Framing (proto s) (wrap (proto s) (m .tag) (unitOf m ∷ answer a (found a (seen (apply a t)))))
   served-framing m a e =
       let h = judge-serves s f y m a e in
       let (l, encodes, framed) = h .encoded in
       let n = answer-fits a t l proper (h .permitted) encodes (framed .bytes .1) in
       record {
         tag = m .tag;
-        body = unitOf m ∷ answer a (found a (apply a t));
+        body = unitOf m ∷ answer a (found a (seen (apply a t)));
         tagged = framed .tagged;
         tagBytes = bytes-tag (proto s) (m .tag) (unitOf m ∷ l) f framed y;
         bytes = (framed .bytes .0, n .bytes);

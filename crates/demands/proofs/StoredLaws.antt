@@ -1,32 +1,46 @@
--- A request's values stored in lent bytes are stored in the cells of these bytes, and every byte that no written cell is in is kept.
+-- A request's values stored in lent bytes are stored in the cells of these bytes, and every byte that no written cell is in is kept. All is
+-- said over the run of cells that a request writes and the table's storage.
 -- Assumes nothing.
-use mathlib.Core.Logic.{_≢_}
-use mathlib.Core.Path.{_≡_, refl, ap, _∙_}
-use mathlib.Core.List.{List, [], _∷_, List·Memᴰ, List·Memᴰ·head, List·Memᴰ·not-nil, List·Memᴰ·eq-of-singleton}
+use mathlib.Core.Logic.{inl, inr, _≢_}
+use mathlib.Core.Path.{_≡_, refl, sym, ap, _∙_, subst, fun-ext}
+use mathlib.Core.List.{List, [], _∷_, _++_, List·Memᴰ, List·Memᴰ·head, List·Memᴰ·not-nil, List·Memᴰ·cases-cons, List·Memᴰ·eq-of-singleton}
 use Prim.Native.Nat.{ℕ, suc, _+_, _*_, _/_, _≤_, _<_}
 use native.Mathlib.Omega.{arith}
 use lib.ListN.{length, getD, set}
 use lib.Seq.{getD-set-other}
+use Rattle.modbus.specs.Step.{choose}
 use Rattle.modbus.specs.Bytes.{All}
-use Rattle.modbus.specs.Table.{Kind, bit, word, Tab, coils, discretes, holdings, inputs, target, Fits, Tables, Range, Hits}
-use Rattle.modbus.specs.Request.{Ask, read, write, writes, Permitted, octets, writing, given}
-use Rattle.modbus.specs.Storage.{putCoil, putRegister, Storage, packed, registers, store}
+use Rattle.modbus.specs.Table.{Kind, bit, word, Tab, tab?, coils, discretes, holdings, inputs, target, Fits, Tables, Range, Hits}
+use Rattle.modbus.specs.Request.{Ask, Permitted, reading, writing, given}
+use Rattle.modbus.specs.Storage.{putCoil, putRegister, storage, store}
 use Rattle.modbus.specs.Setup.{Setup, Valid, Within}
-use Rattle.modbus.specs.Drive.{Inside}
-use Rattle.modbus.proofs.StorageLaws.{store-length, store-in, store-out, packed-law}
+use Rattle.modbus.specs.Drive.{AllWithin, Inside}
+use Rattle.modbus.proofs.StepLaws.{pick-yes, either}
+use Rattle.modbus.proofs.StorageLaws.{Lawful, store-length, store-in, store-out, packed-law}
 use Rattle.modbus.proofs.RegisterLaws.{registers-law}
-use Rattle.tables.specs.Lent.{Lent, lentOf, cellsOf, bytesOf, tablesOf}
-use Rattle.driver.specs.Driven.{setupOf, coilsAfter, holdingsAfter}
+use Rattle.tables.specs.Lent.{Lent, lentOf, tableOf, tablesOf}
+use Rattle.driver.specs.Driven.{storedIn, bytesAfter}
 use Rattle.demands.specs.Demand.{Stored}
+use Rattle.demands.proofs.CellLaws.{Run, nothing, run, run-of}
 
--- ---- bytes that no cell of a run is in
+-- ---- how a table is kept
 
-module _ (S : Storage) (b : ℕ) (Off : ℕ → Type 0) (kept : (l : List ℕ) (n v : ℕ) → Off n → getD (S .put l n v) b 0 ≡ getD l b 0) where
-  store-off : (l : List ℕ) (s : ℕ) (vs : List ℕ) → ((n : ℕ) → s ≤ n → n < s + length vs → Off n) → getD (store S l s vs) b 0 ≡ getD l b 0
-  unfolding store
-  store-off l s [] o = refl
-  store-off l s (v ∷ vs) o =
-      store-off (S .put l s v) (suc s) vs (λ n p q. o n (omega arith) (omega arith)) ∙ kept l s v (o s (omega arith) (omega arith))
+law-of : (t : Tab) → Lawful (storage t)
+law-of coils = packed-law
+law-of discretes = packed-law
+law-of holdings = registers-law
+law-of inputs = registers-law
+
+fits-in : (k : Kind) (vs : List ℕ) → All (Fits k) vs → All (Fits (storage (target k) .kind)) vs
+fits-in bit vs f = f
+fits-in word vs f = f
+
+-- the cells that a byte is part of
+abbrev pub Part : Tab → ℕ → ℕ → Type 0
+Part coils b n = b ≡ n / 8
+Part discretes b n = b ≡ n / 8
+Part holdings b n = b / 2 ≡ n
+Part inputs b n = b / 2 ≡ n
 
 coil-off : (b : ℕ) (l : List ℕ) (n v : ℕ) → b ≢ n / 8 → getD (putCoil l n v) b 0 ≡ getD l b 0
 unfolding putCoil
@@ -37,107 +51,120 @@ unfolding putRegister
 register-off b l n v o =
     getD-set-other (set l (2 * n) (v / 256)) _ b _ 0 (λ e. o (omega arith)) ∙ getD-set-other l _ b _ 0 (λ e. o (omega arith))
 
--- ---- the cells of the bytes after a request
+put-off : (t : Tab) (b : ℕ) (l : List ℕ) (n v : ℕ) → ¬ Part t b n → getD (storage t .put l n v) b 0 ≡ getD l b 0
+put-off coils b l n v o = coil-off b l n v o
+put-off discretes b l n v o = coil-off b l n v o
+put-off holdings b l n v o = register-off b l n v o
+put-off inputs b l n v o = register-off b l n v o
 
-abbrev pub cellsAfter : Lent → Ask → Tables
-cellsAfter l a =
-    tablesOf (lentOf
-    (coilsAfter a (l .coilBytes)) (l .coilCells)
-    (l .discreteBytes) (l .discreteCells)
-    (holdingsAfter a (l .holdingBytes)) (l .holdingCells)
-    (l .inputBytes) (l .inputCells))
+store-off : (t : Tab) (b : ℕ) (l : List ℕ) (s : ℕ) (vs : List ℕ) → ((n : ℕ) → s ≤ n → n < s + length vs → ¬ Part t b n)
+    → getD (store (storage t) l s vs) b 0 ≡ getD l b 0
+unfolding store
+store-off t b l s [] o = refl
+store-off t b l s (v ∷ vs) o =
+    store-off t b (storage t .put l s v) (suc s) vs (λ n p q. o n (omega arith) (omega arith))
+    ∙ put-off t b l s v (o s (omega arith) (omega arith))
 
-range-stored : (r : Range) (vs : List ℕ) (t a : Tables) → ((j : ℕ) → j < r .count → a (r .tab) (r .first + j) ≡ getD vs j 0)
-    → ((tab : Tab) (i : ℕ) → ¬ Hits r tab i → a tab i ≡ t tab i) → Stored (r ∷ []) vs t a
-range-stored r vs t a h k =
-    record {
-      holds = λ q m j p.
-          let z : q ≡ r = List·Memᴰ·eq-of-singleton m in
-          let l : j < r .count = rw z at p in
-          rw z (h j l);
-      keeps = λ tab i n. k tab i (n r (List·Memᴰ·head refl));
-    }
+-- ---- the bytes of a table after a run
+
+pub stored-length : (t : Tab) (rs : List Range) (vs l : List ℕ) → length (storedIn t rs vs l) ≡ length l
+stored-length t [] vs l = refl
+stored-length t (r ∷ rs) vs l =
+    either (λ (x : List ℕ). length x ≡ length l) (tab? t (r .tab)) _ _ (λ e. store-length (law-of t) l (r .first) vs) (λ _. refl)
+
+-- no range has this cell
+abbrev pub Free : List Range → Tab → ℕ → Type 0
+Free rs tab i = (r : Range) → List·Memᴰ r rs → ¬ Hits r tab i
+
+pub stored-free : (t : Tab) (b : ℕ) {rs : List Range} {vs : List ℕ} → Run rs vs → (l : List ℕ) → ((n : ℕ) → Part t b n → Free rs t n)
+    → getD (storedIn t rs vs l) b 0 ≡ getD l b 0
+stored-free t b nothing l o = refl
+stored-free t b (run k s vs f) l o =
+    either (λ (x : List ℕ). getD x b 0 ≡ getD l b 0) (tab? t (target k)) _ _
+    (λ e. store-off t b l s vs (λ n p q i. o n i _ (List·Memᴰ·head refl) (e, (p, q))))
+    (λ _. refl)
+
+-- a table that is only read keeps its bytes
+pub read-only : {rs : List Range} {vs : List ℕ} → Run rs vs → (l : List ℕ) → (storedIn discretes rs vs l ≡ l) × (storedIn inputs rs vs l ≡ l)
+unfolding choose
+read-only nothing l = (refl, refl)
+read-only (run bit s vs f) l = (refl, refl)
+read-only (run word s vs f) l = (refl, refl)
+
+-- ---- and their cells
 
 module _ (l : Lent) where
-  run-stored : (k : Kind) (s : ℕ) (vs : List ℕ) → All (Fits k) vs → octets k (s + length vs) ≤ bytesOf l (target k)
-      → Stored (writing (writes k s vs)) vs (tablesOf l) (cellsAfter l (writes k s vs))
-  run-stored bit s vs fit room = range-stored _ vs _ _ (λ j h. store-in packed-law _ s vs j fit h (omega arith)) by
-    where
-      by : (tab : Tab) (i : ℕ) → ¬ Hits (record { tab = coils; first = s; count = length vs }) tab i
-          → cellsAfter l (writes bit s vs) tab i ≡ tablesOf l tab i
-      by coils i n = store-out packed-law _ s vs i fit (λ h. n (refl, h))
-      by discretes i n = refl
-      by holdings i n = refl
-      by inputs i n = refl
-  run-stored word s vs fit room = range-stored _ vs _ _ (λ j h. store-in registers-law _ s vs j fit h (omega arith)) by
-    where
-      by : (tab : Tab) (i : ℕ) → ¬ Hits (record { tab = holdings; first = s; count = length vs }) tab i
-          → cellsAfter l (writes word s vs) tab i ≡ tablesOf l tab i
-      by coils i n = refl
-      by discretes i n = refl
-      by holdings i n = store-out registers-law _ s vs i fit (λ h. n (refl, h))
-      by inputs i n = refl
+  abbrev cellsBy : List Range → List ℕ → Tables
+  cellsBy rs vs t = storage t .cell (storedIn t rs vs (tableOf l t))
 
-module _ (transport unit : ℕ) (list : List ℕ) (l : Lent) (reply : List ℕ) (v : Valid (setupOf transport unit list l reply)) where
-  -- a valid setup has bytes for every cell that may be named
-  room : (k : Kind) (n : ℕ) → n ≤ cellsOf l (target k) → octets k n ≤ bytesOf l (target k)
-  room bit n h = let q = v .1 .0 .1 in omega arith
-  room word n h = let q = v .1 .1 .1 .0 .1 in omega arith
+  bytes-stored : {rs : List Range} {vs : List ℕ} → Run rs vs
+      → ((r : Range) → List·Memᴰ r rs → (n : ℕ) → n ≤ r .first + r .count → storage (r .tab) .bytes n ≤ length (tableOf l (r .tab)))
+      → Stored rs vs (tablesOf l) (cellsBy rs vs)
+  bytes-stored nothing room = record { holds = λ r m j h. absurd (List·Memᴰ·not-nil m); keeps = λ tab i n. refl }
+  bytes-stored (run k s vs f) room =
+      record {
+        holds = λ r m j h.
+            let z = List·Memᴰ·eq-of-singleton m in
+            let p : j < length vs = rw z at h in
+            rw z
+            (ap (λ (x : List ℕ). storage (target k) .cell x (s + j)) (pick-yes (tab? (target k) (target k)) _ _ refl)
+            ∙ store-in (law-of (target k)) _ s vs j (fits-in k vs f) p (room _ (List·Memᴰ·head refl) (suc (s + j)) (omega arith)));
+        keeps = λ tab i n.
+            either (λ (x : List ℕ). storage tab .cell x i ≡ tablesOf l tab i) (tab? tab (target k)) _ _
+            (λ e.
+            store-out (law-of tab) _ s vs i (subst (λ t. All (Fits (storage t .kind)) vs) (sym e) (fits-in k vs f))
+            (λ h. n _ (List·Memᴰ·head refl) (e, h)))
+            (λ _. refl);
+      }
 
-  pub ask-stored : (a : Ask) → Permitted a → Inside (setupOf transport unit list l reply) a
-      → Stored (writing a) (given a) (tablesOf l) (cellsAfter l a)
-  ask-stored (read t s n) p q = record { holds = λ r m j h. absurd (List·Memᴰ·not-nil m); keeps = λ tab i n. refl }
-  ask-stored (write bit a x) p q = run-stored l bit a (x ∷ []) (p, tt) (room bit (a + 1) (q .0))
-  ask-stored (write word a x) p q = run-stored l word a (x ∷ []) (p, tt) (room word (a + 1) (q .0))
-  ask-stored (writes k s vs) p q = run-stored l k s vs (p .2) (room k (s + length vs) (q .0))
+-- ---- the cells that a request names are inside
+
+module _ (s : Setup) where
+  last-within : (k l : List Range) → AllWithin s (k ++ l) → AllWithin s l
+  last-within [] l h = h
+  last-within (r ∷ k) l h = last-within k l (h .1)
+
+  each-within : (l : List Range) → AllWithin s l → (r : Range) → List·Memᴰ r l → Within s r
+  each-within [] h r m = absurd (List·Memᴰ·not-nil m)
+  each-within (q ∷ l) h r m = elim (List·Memᴰ·cases-cons m) [ inl e ↦ subst (Within s) (sym e) (h .0) | inr d ↦ each-within l (h .1) r d ]
+
+  written-within : (a : Ask) → Inside s a → (r : Range) → List·Memᴰ r (writing a) → Within s r
+  written-within a h = each-within (writing a) (last-within (reading a) (writing a) h)
+
+  -- no request inside the tables writes a spare cell
+  pub spare-free : (tab : Tab) (i : ℕ) → s .cells tab ≤ i → (a : Ask) → Inside s a → Free (writing a) tab i
+  spare-free tab i spare a h r m hit =
+      let w = written-within a h r m in
+      let z : s .cells tab ≡ s .cells (r .tab) = ap (s .cells) (hit .0) in
+      omega arith
 
 -- ---- what a request leaves
 
-pub coils-length : (a : Ask) (l : List ℕ) → length (coilsAfter a l) ≡ length l
-coils-length (read t s n) l = refl
-coils-length (write bit a v) l = store-length packed-law l a (v ∷ [])
-coils-length (write word a v) l = refl
-coils-length (writes bit s vs) l = store-length packed-law l s vs
-coils-length (writes word s vs) l = refl
+-- the coils and the holdings have new bytes, the other tables their own
+abbrev pub cellsAfter : Lent → Ask → Tables
+cellsAfter l a =
+    tablesOf (lentOf
+    (bytesAfter l a coils) (l .coilCells)
+    (l .discreteBytes) (l .discreteCells)
+    (bytesAfter l a holdings) (l .holdingCells)
+    (l .inputBytes) (l .inputCells))
 
-pub holdings-length : (a : Ask) (l : List ℕ) → length (holdingsAfter a l) ≡ length l
-holdings-length (read t s n) l = refl
-holdings-length (write bit a v) l = refl
-holdings-length (write word a v) l = store-length registers-law l a (v ∷ [])
-holdings-length (writes bit s vs) l = refl
-holdings-length (writes word s vs) l = store-length registers-law l s vs
+module _ (s : Setup) (l : Lent) (v : Valid s) (bytes : (t : Tab) → s .bytes t ≡ length (tableOf l t)) where
+  -- a valid setup has bytes for every cell that may be named
+  room : (t : Tab) (n : ℕ) → n ≤ s .cells t → storage t .bytes n ≤ length (tableOf l t)
+  room coils n h = let q = v .1 .0 .1 in let e = bytes coils in omega arith
+  room discretes n h = let q = v .1 .1 .0 .1 in let e = bytes discretes in omega arith
+  room holdings n h = let q = v .1 .1 .1 .0 .1 in let e = bytes holdings in omega arith
+  room inputs n h = let q = v .1 .1 .1 .1 .1 in let e = bytes inputs in omega arith
 
--- no range of cells written has this one
-abbrev Free : Ask → Tab → ℕ → Type 0
-Free a tab i = (r : Range) → List·Memᴰ r (writing a) → ¬ Hits r tab i
-
-pub coils-free : (a : Ask) (l : List ℕ) (b : ℕ) → ((n : ℕ) → b ≡ n / 8 → Free a coils n) → getD (coilsAfter a l) b 0 ≡ getD l b 0
-coils-free (read t s n) l b o = refl
-coils-free (write bit a v) l b o =
-    store-off packed b _ (coil-off b) l a (v ∷ []) (λ n p q e. o n e _ (List·Memᴰ·head refl) (refl, (p, q)))
-coils-free (write word a v) l b o = refl
-coils-free (writes bit s vs) l b o =
-    store-off packed b _ (coil-off b) l s vs (λ n p q e. o n e _ (List·Memᴰ·head refl) (refl, (p, q)))
-coils-free (writes word s vs) l b o = refl
-
-pub holdings-free : (a : Ask) (l : List ℕ) (b : ℕ) → Free a holdings (b / 2) → getD (holdingsAfter a l) b 0 ≡ getD l b 0
-holdings-free (read t s n) l b o = refl
-holdings-free (write bit a v) l b o = refl
-holdings-free (write word a v) l b o =
-    store-off registers b _ (register-off b) l a (v ∷ []) (λ n p q e. o _ (List·Memᴰ·head refl) (refl, (omega arith, omega arith)))
-holdings-free (writes bit s vs) l b o = refl
-holdings-free (writes word s vs) l b o =
-    store-off registers b _ (register-off b) l s vs (λ n p q e. o _ (List·Memᴰ·head refl) (refl, (omega arith, omega arith)))
-
-module _ (s : Setup) (tab : Tab) (i : ℕ) (spare : s .cells tab ≤ i) where
-  beyond : (r q : Range) → r ≡ q → Within s q → ¬ Hits r tab i
-  beyond r q e w h =
-      let z : s .cells tab ≡ s .cells (q .tab) = ap (s .cells) (h .0 ∙ ap (λ x. x .tab) e) in
-      let k : i < q .first + q .count = rw e at (h .1 .1) in
-      omega arith
-
-  -- no request inside the tables writes a spare cell
-  pub spare-free : (a : Ask) → Inside s a → Free a tab i
-  spare-free (read t f n) p r m = absurd (List·Memᴰ·not-nil m)
-  spare-free (write k a v) p r m = beyond r _ (List·Memᴰ·eq-of-singleton m) (p .0)
-  spare-free (writes k f vs) p r m = beyond r _ (List·Memᴰ·eq-of-singleton m) (p .0)
+  pub ask-stored : (a : Ask) → Permitted a → Inside s a → Stored (writing a) (given a (tablesOf l)) (tablesOf l) (cellsAfter l a)
+  ask-stored a p q =
+      let w = run-of a (tablesOf l) p in
+      subst (Stored (writing a) (given a (tablesOf l)) (tablesOf l)) (fun-ext (by w))
+      (bytes-stored l w (λ r m n k. room (r .tab) n (omega (arith, written-within s a q r m))))
+    where
+      by : Run (writing a) (given a (tablesOf l)) → (t : Tab) → cellsBy l (writing a) (given a (tablesOf l)) t ≡ cellsAfter l a t
+      by w coils = refl
+      by w discretes = ap (storage discretes .cell) (read-only w (l .discreteBytes) .0)
+      by w holdings = refl
+      by w inputs = ap (storage inputs .cell) (read-only w (l .inputBytes) .1)

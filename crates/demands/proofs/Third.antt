@@ -7,7 +7,7 @@ use native.Mathlib.Omega.{arith}
 use Rattle.modbus.specs.Step.{stop}
 use Rattle.modbus.specs.Bytes.{Bytes}
 use Rattle.modbus.specs.Table.{Tables}
-use Rattle.modbus.specs.Request.{Ask, apply, found, answer}
+use Rattle.modbus.specs.Request.{Ask, apply, seen, found, answer}
 use Rattle.modbus.specs.Setup.{Setup, Valid, Roomy}
 use Rattle.modbus.specs.Unit.{Broadcast}
 use Rattle.modbus.specs.Decode.{Message}
@@ -21,7 +21,7 @@ use Rattle.demands.proofs.Judge.{requested, message, judge-serves, serv
 module _ (s : Setup) (t : Tables) (f : List ℕ) (y : Bytes f) (v : Valid s) (room : Roomy s) where
   -- what the driver does with a request that is to be served
   own : (q : Request) (h : Serves s f q) → ¬ Broadcast s (q .unit)
-      → drive s t f ≡ replying s (message s f q h) 0 0 (answer (q .ask) (found (q .ask) (apply (q .ask) t))) (apply (q .ask) t)
+      → drive s t f ≡ replying s (message s f q h) 0 0 (answer (q .ask) (found (q .ask) (seen (apply (q .ask) t)))) (apply (q .ask) t)
   unfolding drive settle
   own q h n = ap (settle s t) (serves-judge s f v room q h) ∙ pick-no _ _ _ n
 
@@ -50,7 +50,7 @@ module _ (s : Setup) (t : Tables) (f : List ℕ) (y : Bytes f) (v : Valid s) (ro
           λ (q, h). rw (serves-judge s f v room q h) (go-low s t (message s f q h) (q .ask)),
         );
         same = same-request;
-        written = λ q h. rw (serves-judge s f v room q h, go-after s t (message s f q h) (q .ask)) (apply-stored (q .ask) t);
+        written = λ q h. rw (serves-judge s f v room q h, go-after s t (message s f q h) (q .ask)) (apply-stored (q .ask) t (h .permitted));
         answered = λ q h n. rw (own q h n) (refl, refl, refl);
         silent = λ q h b. rw (shared q h b) (refl, refl, refl);
         kept = λ n tab i. served-or (λ q h. absurd (n (q, h))) (λ x e. rw (e, stop-after s t x));

@@ -6,7 +6,7 @@ use mathlib.Core.List.{List, [], _∷_, List·Memᴰ}
 use Prim.Native.Nat.{ℕ, _+_, _<_}
 use lib.ListN.{getD}
 use Rattle.modbus.specs.Table.{Tables, Tab, Range, Hits}
-use Rattle.modbus.specs.Request.{Ask, fnOf, Permitted, Encodes, writing, given, found, answer}
+use Rattle.modbus.specs.Request.{Ask, fnOf, Permitted, Encodes, writing, given, seen, found, answer}
 use Rattle.modbus.specs.Frame.{Framed, wrap}
 use Rattle.modbus.specs.Setup.{Setup, proto}
 use Rattle.modbus.specs.Unit.{Broadcast, Ours}
@@ -46,10 +46,10 @@ pub record Demand3 (s : Setup) (t : Tables) (f : List ℕ) (r : Result) : Type 0
   -- any two such requests ask the same
   pub same : (p q : Request) → Serves s f p → Serves s f q → p ≡ q
   -- then the cells it writes hold its values, all other cells keep theirs
-  pub written : (q : Request) → Serves s f q → Stored (writing (q .ask)) (given (q .ask)) t (r .after)
+  pub written : (q : Request) → Serves s f q → Stored (writing (q .ask)) (given (q .ask) t) t (r .after)
   -- and the reply is that request's own answer, or none for a broadcast
   pub answered : (q : Request) → Serves s f q → ¬ Broadcast s (q .unit)
-      → (r .outcome ≡ 0) × (r .exceptionCode ≡ 0) × (r .reply ≡ wrap (proto s) (q .tag) (q .unit ∷ answer (q .ask) (found (q .ask) (r .after))))
+      → (r .outcome ≡ 0) × (r .exceptionCode ≡ 0) × (r .reply ≡ wrap (proto s) (q .tag) (q .unit ∷ answer (q .ask) (found (q .ask) (seen (r .after)))))
   pub silent : (q : Request) → Serves s f q → Broadcast s (q .unit) → (r .outcome ≡ 1) × (r .exceptionCode ≡ 0) × (r .reply ≡ [])
   -- if none exists no cell changes, and the reply is 01's one exception, or nothing
   pub kept : ¬ ((q : Request) × Serves s f q) → (tab : Tab) (i : ℕ) → r .after tab i ≡ t tab i

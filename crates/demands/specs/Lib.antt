@@ -3,4 +3,3 @@ pub mod Order
 pub mod Cases
 pub mod Impostors
 pub mod OnBytes
-pub mod Chain

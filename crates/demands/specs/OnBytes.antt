@@ -10,11 +10,11 @@ use Rattle.modbus.specs.Storage.{coilAt}
 use Rattle.modbus.specs.Setup.{Setup}
 use Rattle.modbus.specs.Drive.{Result}
 use Rattle.tables.specs.Lent.{Lent, lentOf, tablesOf}
-use Rattle.driver.specs.Driven.{Given, given}
+use Rattle.driver.specs.Driven.{Leaves, leaving}
 use Rattle.demands.specs.Demand.{Request, Serves}
 
 -- the lent tables after a call: the coils and the holdings have its bytes, the discretes and the inputs are only read
-abbrev pub lentAfter : Lent → Given → Lent
+abbrev pub lentAfter : Lent → Leaves → Lent
 lentAfter l g =
     lentOf
     (g .coilBytes) (l .coilCells)
@@ -22,33 +22,34 @@ lentAfter l g =
     (g .holdingBytes) (l .holdingCells)
     (l .inputBytes) (l .inputCells)
 
--- what a call showed: its numbers, as many bytes from the front of the reply buffer as it said, and the cells of the bytes
-abbrev pub showed : Lent → Given → Result
+-- what a call showed: its outcome and code, as many bytes from the front of the reply buffer as it said, and the cells of the bytes
+abbrev pub showed : Lent → Leaves → Result
 showed l g =
     record {
-      outcome = g .numbers .0;
-      exceptionCode = g .numbers .1;
-      reply = take (g .numbers .2) (g .replyBytes);
+      outcome = g .result .outcome;
+      exceptionCode = g .result .code;
+      reply = take (g .result .length) (g .replyBytes);
       after = tablesOf (lentAfter l g);
     }
 
--- a call that refused: its numbers, its reply in front of the buffer, and every other byte as lent
-abbrev pub refusing : Lent → List ℕ → ℕ → ℕ → List ℕ → Given
-refusing l reply o c r = given (o, c, length r) (r ++ drop (length r) reply) (l .coilBytes) (l .holdingBytes)
+-- a call that refused: its outcome and code, its reply in front of the buffer, and every other byte as lent
+abbrev pub refusing : Lent → List ℕ → ℕ → ℕ → List ℕ → Leaves
+refusing l reply o c r =
+    leaving (record { length = length r; outcome = o; code = c }) (r ++ drop (length r) reply) (l .coilBytes) (l .holdingBytes)
 
 -- no request that the frame is to be served as writes this cell
 abbrev pub Unwritten : Setup → List ℕ → Tab → ℕ → Type 0
 Unwritten s f tab i = (q : Request) → Serves s f q → (r : Range) → List·Memᴰ r (writing (q .ask)) → ¬ Hits r tab i
 
 -- what every call leaves
-pub record Kept (s : Setup) (l : Lent) (frame reply : List ℕ) (g : Given) : Type 0 where
+pub record Kept (s : Setup) (l : Lent) (frame reply : List ℕ) (g : Leaves) : Type 0 where
   -- no slice grows or shrinks
   pub coilLength : length (g .coilBytes) ≡ length (l .coilBytes)
   pub holdingLength : length (g .holdingBytes) ≡ length (l .holdingBytes)
   pub replyLength : length (g .replyBytes) ≡ length reply
   -- the reply fits its buffer, and the bytes from its length on are as lent
-  pub replyFits : g .numbers .2 ≤ length reply
-  pub replyRest : drop (g .numbers .2) (g .replyBytes) ≡ drop (g .numbers .2) reply
+  pub replyFits : g .result .length ≤ length reply
+  pub replyRest : drop (g .result .length) (g .replyBytes) ≡ drop (g .result .length) reply
   -- outside a served write every coil keeps its bit and every holding its bytes; byte b of the holdings is in register b / 2
   pub coilsOutside : (i : ℕ) → Unwritten s frame coils i → coilAt (g .coilBytes) i ≡ coilAt (l .coilBytes) i
   pub holdingsOutside : (b : ℕ) → Unwritten s frame holdings (b / 2) → getD (g .holdingBytes) b 0 ≡ getD (l .holdingBytes) b 0

@@ -37,7 +37,7 @@ pub record Known (s : Setup) (f : List ℕ) (m : Message) (fn : Fn) : Type 0 whe
 
 -- a fault with a code: an exception from our own unit, and BroadcastIgnored without a reply on a broadcast number
 pub data Coded (s : Setup) (m : Message) : ℕ → ℕ → List ℕ → Type 0 where
-  told : (c : ℕ) → ¬ Broadcast s (unitOf m) → Coded s m 2 c (wrap (proto s) (m .tag) (unitOf m ∷ exception (numberOf m) c))
+  exception-sent : (c : ℕ) → ¬ Broadcast s (unitOf m) → Coded s m 2 c (wrap (proto s) (m .tag) (unitOf m ∷ exception (numberOf m) c))
   ignored : (c : ℕ) → Broadcast s (unitOf m) → Coded s m 3 c []
 
 -- outcome, code and reply of a refusal

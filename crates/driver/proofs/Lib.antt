@@ -1,6 +1,11 @@
-pub mod DrivenLaws
-pub mod FramedLaws
-pub mod ServingLaws
-pub mod SetupLaws
+pub mod ReplyLaws
+pub mod UnitLaws
+pub mod ReadLaws
+pub mod ServeLaws
+pub mod OpenLaws
+pub mod CloseLaws
+pub mod StoreLaws
+pub mod SettleLaws
+pub mod HandleLaws
+pub mod CallLaws
 pub mod Unique
-pub mod WeighedLaws

@@ -4,80 +4,61 @@ use mathlib.Core.List.{List, [], _∷_}
 use Prim.Native.Nat.{ℕ}
 use lib.ListN.{length}
 use lib.Seq.{sets}
-use Rattle.modbus.specs.Step.{Step, stop, go}
-use Rattle.modbus.specs.Table.{bit, word}
-use Rattle.modbus.specs.Request.{Ask, read, write, writes}
-use Rattle.modbus.specs.Storage.{packed, registers, store}
+use Rattle.modbus.specs.Step.{Step, stop, go, choose}
+use Rattle.modbus.specs.Table.{Tab, tab?, coils, holdings, Range}
+use Rattle.modbus.specs.Request.{Ask, writing, given}
+use Rattle.modbus.specs.Storage.{storage, store}
 use Rattle.modbus.specs.Setup.{Setup}
 use Rattle.modbus.specs.Decode.{Message}
 use Rattle.modbus.specs.Drive.{Fault, Result, judge, settle}
-use Rattle.tables.specs.Lent.{Lent, tablesOf, cellsOf, bytesOf}
-use Rattle.driver.specs.declared.Outcome.{Outcome}
-use Rattle.driver.specs.declared.Outcome.the-variants.{Answered, BroadcastDone, Exception, BroadcastIgnored, Foreign, FrameBroken, FrameCheck, WrongLength, BadFunction, NoRoom, BadSetup}
+use Rattle.tables.specs.Lent.{Lent, lentOf, tableOf, tablesOf, cellsOf, bytesOf}
+use Rattle.driver.specs.declared.Setup.{Setup as Numbers}
+use Rattle.driver.specs.declared.Driven.{Driven}
 
--- document 01's outcome, its code and the reply's length
-abbrev pub paper : Outcome → ℕ × ℕ × ℕ
-paper (Answered n) = (0, 0, n)
-paper BroadcastDone = (1, 0, 0)
-paper (Exception n c) = (2, c, n)
-paper (BroadcastIgnored c) = (3, c, 0)
-paper Foreign = (4, 0, 0)
-paper FrameBroken = (5, 0, 0)
-paper FrameCheck = (6, 0, 0)
-paper WrongLength = (7, 0, 0)
-paper BadFunction = (8, 0, 0)
-paper NoRoom = (9, 0, 0)
-paper BadSetup = (10, 0, 0)
+-- the lent tables, with as many cells as the setup's numbers say
+abbrev pub lentIn : Numbers → List ℕ → List ℕ → List ℕ → List ℕ → Lent
+lentIn n c d h i = lentOf c (n .«coil_cells») d (n .«discrete_cells») h (n .«holding_cells») i (n .«input_cells»)
 
-abbrev pub setupOf : ℕ → ℕ → List ℕ → Lent → List ℕ → Setup
-setupOf transport unit list l reply =
-    record { transport = transport; unit = unit; broadcasts = list; cells = cellsOf l; bytes = bytesOf l; room = length reply }
+-- the setup: its numbers, the list of broadcast numbers, the lent tables and the room for the reply
+abbrev pub setupOf : Numbers → List ℕ → Lent → List ℕ → Setup
+setupOf n list l reply =
+    record { transport = n .transport; unit = n .unit; broadcasts = list; cells = cellsOf l; bytes = bytesOf l; room = length reply }
 
--- the bytes of the coils and of the holdings after a request
-abbrev pub coilsAfter : Ask → List ℕ → List ℕ
-coilsAfter (read t s n) l = l
-coilsAfter (write bit a v) l = store packed l a (v ∷ [])
-coilsAfter (write word a v) l = l
-coilsAfter (writes bit s vs) l = store packed l s vs
-coilsAfter (writes word s vs) l = l
+-- a table's bytes after a request: the cells that it writes there take its values, as the table keeps them
+abbrev pub storedIn : Tab → List Range → List ℕ → List ℕ → List ℕ
+storedIn t [] vs l = l
+storedIn t (r ∷ rs) vs l = choose (tab? t (r .tab)) (store (storage t) l (r .first) vs) l
 
-abbrev pub holdingsAfter : Ask → List ℕ → List ℕ
-holdingsAfter (read t s n) l = l
-holdingsAfter (write bit a v) l = l
-holdingsAfter (write word a v) l = store registers l a (v ∷ [])
-holdingsAfter (writes bit s vs) l = l
-holdingsAfter (writes word s vs) l = store registers l s vs
+abbrev pub bytesAfter : Lent → Ask → Tab → List ℕ
+bytesAfter l a t = storedIn t (writing a) (given a (tablesOf l)) (tableOf l t)
 
--- and after a verdict: only what is served changes bytes
-abbrev pub coilsBy : Step Fault (Message × Ask) → List ℕ → List ℕ
-coilsBy (stop x) l = l
-coilsBy (go (m, a)) l = coilsAfter a l
+-- and after a judgement: only what is served changes bytes
+abbrev pub bytesBy : Lent → Step Fault (Message × Ask) → Tab → List ℕ
+bytesBy l (stop x) t = tableOf l t
+bytesBy l (go (m, a)) t = bytesAfter l a t
 
-abbrev pub holdingsBy : Step Fault (Message × Ask) → List ℕ → List ℕ
-holdingsBy (stop x) l = l
-holdingsBy (go (m, a)) l = holdingsAfter a l
+-- document 01's outcome and code, and the reply's length
+abbrev pub resultOf : Result → Driven
+resultOf r = record { length = length (r .reply); outcome = r .outcome; code = r .exceptionCode }
 
--- the outcome in numbers, and the reply buffer, the coils and the holdings as bytes: a reply stands at the front of its buffer
-pub record Given : Type 0 where
-  pub numbers : ℕ × ℕ × ℕ
+-- the result, and the reply buffer, the coils and the holdings as bytes: a reply stands at the front of its buffer
+pub record Leaves : Type 0 where
+  pub result : Driven
   pub replyBytes : List ℕ
   pub coilBytes : List ℕ
   pub holdingBytes : List ℕ
 
-abbrev pub given : ℕ × ℕ × ℕ → List ℕ → List ℕ → List ℕ → Given
-given n r c h = record { numbers = n; replyBytes = r; coilBytes = c; holdingBytes = h }
+abbrev pub leaving : Driven → List ℕ → List ℕ → List ℕ → Leaves
+leaving r o c h = record { result = r; replyBytes = o; coilBytes = c; holdingBytes = h }
 
-abbrev pub told : Result → ℕ × ℕ × ℕ
-told r = (r .outcome, r .exceptionCode, length (r .reply))
-
-abbrev pub settled : Setup → Lent → List ℕ → Step Fault (Message × Ask) → Given
+abbrev pub settled : Setup → Lent → List ℕ → Step Fault (Message × Ask) → Leaves
 settled s l reply j =
     let r = settle s (tablesOf l) j in
-    given (told r) (sets reply 0 (r .reply)) (coilsBy j (l .coilBytes)) (holdingsBy j (l .holdingBytes))
+    leaving (resultOf r) (sets reply 0 (r .reply)) (bytesBy l j coils) (bytesBy l j holdings)
 
-unfoldable pub driven : Setup → Lent → List ℕ → List ℕ → Given
+unfoldable pub driven : Setup → Lent → List ℕ → List ℕ → Leaves
 driven s l frame reply = settled s l reply (judge s frame)
 
--- the call: transport, unit, list of broadcast numbers, tables, frame, reply buffer
-abbrev pub called : ℕ → ℕ → List ℕ → Lent → List ℕ → List ℕ → Given
-called transport unit list l frame reply = driven (setupOf transport unit list l reply) l frame reply
+-- the call: the setup's numbers, the list of broadcast numbers, the tables, the frame, the reply buffer
+abbrev pub called : Numbers → List ℕ → Lent → List ℕ → List ℕ → Leaves
+called n list l frame reply = driven (setupOf n list l reply) l frame reply

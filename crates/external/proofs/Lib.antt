@@ -1,2 +1,5 @@
-pub mod ExternalLaws
+pub mod CallLaws
+pub mod ErrorLaws
+pub mod ReadLaws
+pub mod WriteLaws
 pub mod Unique

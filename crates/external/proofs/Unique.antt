@@ -7,10 +7,10 @@ use Prim.Native.Nat.{ℕ}
 use lib.Dec.{eqb}
 use lib.ListN.{getD}
 use Rattle.modbus.proofs.Unique.{Unique, back, refused-back, by-back}
-use Rattle.external.specs.External.{dataPaper, readAnswerPaper, writeAnswerPaper, Found, found}
+use Rattle.external.specs.External.{dataPaper, readAnswerPaper, writeAnswerPaper, Described, described}
 use Rattle.frame.specs.declared.ModbusFrame.{ModbusFrame}
 use Rattle.external.specs.declared.Data.{Data}
-use Rattle.external.specs.declared.Data.the-variants as given
+use Rattle.external.specs.declared.Data.the-variants as place
 use Rattle.external.specs.declared.Write.{Write}
 use Rattle.external.specs.declared.Write.the-variants as write
 use Rattle.external.specs.declared.Read.{Read}
@@ -31,7 +31,7 @@ use Rattle.external.proofs.get_external_read.Reads as get-read-reads
 use Rattle.external.proofs.get_external_write.Kinds as get-write-kinds
 use Rattle.external.proofs.get_external_write.Reads as get-write-reads
 
--- ---- the way back from the values
+-- ---- the way back from the numbers
 
 abbrev readBack : List ℕ → Read
 readBack l =
@@ -40,7 +40,7 @@ readBack l =
     (read.Words record { address = getD l 1 0; count = getD l 2 0; at = getD l 3 0; len = getD l 4 0 })
 
 abbrev dataBack : List ℕ → Data
-dataBack l = cond (eqb (getD l 3 0) 0) (given.Value (getD l 4 0)) (given.Place (getD l 4 0) (getD l 5 0))
+dataBack l = cond (eqb (getD l 3 0) 0) (place.Value (getD l 4 0)) (place.Place (getD l 4 0) (getD l 5 0))
 
 abbrev writeBack : List ℕ → Write
 writeBack l =
@@ -59,8 +59,8 @@ read-back (reading.Value (read.Words r)) = refl
 read-back (reading.Refused k) = refused-back (λ l. reading.Value (readBack l)) reading.Refused [] k
 
 data-back : (k address count : ℕ) (d : Data) → dataBack (k ∷ address ∷ count ∷ dataPaper d) ≡ d
-data-back k address count (given.Value v) = refl
-data-back k address count (given.Place at n) = refl
+data-back k address count (place.Value v) = refl
+data-back k address count (place.Place at n) = refl
 
 write-back : (x : WriteAnswer) → writeAnswerBack (writeAnswerPaper x) ≡ x
 write-back (writes.Value (write.Bits w)) =
@@ -75,12 +75,12 @@ write-back (writes.Refused k) = refused-back (λ l. writes.Value (writeBack l)) 
 -- `lasts` the slice in its place
 module _ {A L U : Type 0} (paper : A → ℕ × List ℕ) (way : ℕ × List ℕ → A) (ways : (a : A) → way (paper a) ≡ a)
     (left : A → ModbusFrame → L) (lasts : List ℕ → U) where
-  found-apart : (a b : A) (s t : ModbusFrame) (l m : List ℕ) → found (paper a) s l ≡ found (paper b) t m
+  described-apart : (a b : A) (s t : ModbusFrame) (l m : List ℕ) → described (paper a) s l ≡ described (paper b) t m
       → (left a s ≡ left b t) × (lasts l ≡ lasts m)
-  found-apart a b s t l m e = (
-    ap₂ left (by-back paper way ways a b (ap (λ (f : Found). (f .left .kind, f .values)) e))
-        (ap (λ (f : Found). f .left .frame) e),
-    ap (λ (f : Found). lasts (f .left .out)) e,
+  described-apart a b s t l m e = (
+    ap₂ left (by-back paper way ways a b (ap (λ (f : Described). (f .left .kind, f .numbers)) e))
+        (ap (λ (f : Described). f .left .frame) e),
+    ap (λ (f : Described). lasts (f .left .out)) e,
   )
 
 -- ---- the public functions
@@ -99,12 +99,12 @@ process-external-write κs a x y u v p q =
 
 pub get-external-read : Unique 2 get-read-kinds.ps get-read-kinds.r get-read-reads.Post
 get-external-read κs a x y u v p q =
-    found-apart readAnswerPaper readAnswerBack read-back
+    described-apart readAnswerPaper readAnswerBack read-back
     (λ (b : ReadAnswer) (s : ModbusFrame). record { answer = b; frame = s })
     (λ l. (u .0, (u .1 .0, (l, u .1 .1 .1)))) (x .answer) (y .answer) (x .frame) (y .frame) _ _ (p ∙ sym q)
 
 pub get-external-write : Unique 2 get-write-kinds.ps get-write-kinds.r get-write-reads.Post
 get-external-write κs a x y u v p q =
-    found-apart writeAnswerPaper writeAnswerBack write-back
+    described-apart writeAnswerPaper writeAnswerBack write-back
     (λ (b : WriteAnswer) (s : ModbusFrame). record { answer = b; frame = s })
     (λ l. (u .0, (u .1 .0, (l, u .1 .1 .1)))) (x .answer) (y .answer) (x .frame) (y .frame) _ _ (p ∙ sym q)

@@ -6,7 +6,7 @@ use Prim.Native.Nat.{ℕ, _+_}
 use lib.ListN.{length}
 use Rattle.modbus.specs.Step.{Step, stop, go, _>>=_, _>>_, need, choose, _≤?_, _≟_}
 use Rattle.modbus.specs.Table.{Kind, bit, word, kindOf}
-use Rattle.modbus.specs.Request.{Fn, reads, one, many}
+use Rattle.modbus.specs.Ported.{Ported, reads, one, many}
 use Rattle.modbus.specs.Paper.{number}
 use Rattle.modbus.specs.declared.ErrorKind.{ErrorKind}
 use Rattle.modbus.specs.declared.ErrorKind.the-variants.{OOB, FrameBroken, IllegalDataValue, ReadCallOnWriteFrame, WriteCallOnReadFrame}
@@ -14,17 +14,17 @@ use Rattle.modbus.specs.declared.ModbusProto.{ModbusProto}
 use Rattle.modbus.specs.declared.ModbusProto.the-variants.{Rtu, Ascii, TcpUdp}
 use Rattle.response.specs.Bounded.{resized}
 use Rattle.outgoing.specs.Grow.{Response, Short, largest, head}
-use Rattle.frame.specs.State.{fnOf, grown, withError, After, after, well, refused, ended}
+use Rattle.frame.specs.State.{portedOf, grown, withError, After, after, well, refused, ended}
 use Rattle.frame.specs.Changes.{kindNumber}
-use Rattle.frame.specs.Parse.{orLeave, second, byteCount}
-use Rattle.process.specs.Process.{responseOf, dataBytes, writeEchoed, legal?, valueOf}
+use Rattle.frame.specs.Parse.{orLeave, secondWord}
+use Rattle.process.specs.Process.{responseOf, dataBytes, writeEchoed, legal?, valueOf, dataBehind}
 use Rattle.frame.specs.declared.ModbusError.{ModbusError}
 use Rattle.frame.specs.declared.ModbusError.the-variants.{Unset, Code}
 use Rattle.frame.specs.declared.ModbusFrame.{ModbusFrame}
 use Rattle.external.specs.declared.Reported.{Reported}
 use Rattle.external.specs.declared.Reported.the-variants as report
 use Rattle.external.specs.declared.Data.{Data}
-use Rattle.external.specs.declared.Data.the-variants as given
+use Rattle.external.specs.declared.Data.the-variants as place
 use Rattle.external.specs.declared.Write.{Write}
 use Rattle.external.specs.declared.Write.the-variants as write
 use Rattle.external.specs.declared.Read.{Read}
@@ -40,8 +40,8 @@ use Rattle.external.specs.declared.ReadLeft.{ReadLeft}
 
 -- 0 for bits and 1 for words, the first cell, how many, and the data: 0 and the value itself, or 1, where they stand and how many bytes
 abbrev pub dataPaper : Data → List ℕ
-dataPaper (given.Value v) = 0 ∷ v ∷ []
-dataPaper (given.Place at n) = 1 ∷ at ∷ n ∷ []
+dataPaper (place.Value v) = 0 ∷ v ∷ []
+dataPaper (place.Place at n) = 1 ∷ at ∷ n ∷ []
 
 abbrev pub writePaper : Write → List ℕ
 writePaper (write.Bits w) = 0 ∷ w .address ∷ w .count ∷ dataPaper (w .«data»)
@@ -61,25 +61,32 @@ readAnswerPaper (reading.Value r) = (0, readPaper r)
 readAnswerPaper (reading.Refused k) = (number k, [])
 
 -- with the state and the lent slice afterwards
-pub record Found : Type 0 where
+pub record Described : Type 0 where
   pub left : After
-  pub values : List ℕ
+  pub numbers : List ℕ
 
-abbrev pub found : ℕ × List ℕ → ModbusFrame → List ℕ → Found
-found (k, vs) s out = record { left = after k s out; values = vs }
+abbrev pub described : ℕ × List ℕ → ModbusFrame → List ℕ → Described
+described (k, vs) s out = record { left = after k s out; numbers = vs }
 
-abbrev pub readFound : ReadLeft → List ℕ → Found
-readFound r l = found (readAnswerPaper (r .answer)) (r .frame) l
+abbrev pub readDescribed : ReadLeft → List ℕ → Described
+readDescribed r l = described (readAnswerPaper (r .answer)) (r .frame) l
 
-abbrev pub writeFound : WriteLeft → List ℕ → Found
-writeFound r l = found (writeAnswerPaper (r .answer)) (r .frame) l
+abbrev pub writeDescribed : WriteLeft → List ℕ → Described
+writeDescribed r l = described (writeAnswerPaper (r .answer)) (r .frame) l
 
-abbrev pub without : After → Found
-without a = record { left = a; values = [] }
+abbrev pub without : After → Described
+without a = record { left = a; numbers = [] }
 
-abbrev pub foundBy : Step After Found → Found
-foundBy (stop a) = without a
-foundBy (go f) = f
+abbrev pub describedBy : Step After Described → Described
+describedBy (stop a) = without a
+describedBy (go f) = f
+
+-- a state whose response exceeds the lent slice is refused; then each function has its own
+unfoldable pub guarded : (Ported → ModbusFrame → List ℕ → List ℕ → Described) → ModbusFrame → List ℕ → List ℕ → Described
+guarded by s buf out =
+    describedBy (do
+      need (s .«response_len» ≤? length out) (refused OOB s out)
+      go (by (portedOf (s .func)) s buf out))
 
 -- ---- a Modbus error, where none is set: the response is cut or filled to what finalize_response expects
 
@@ -100,26 +107,26 @@ errorSet Unset c s out = resizedTo c s out (resized out (s .«response_len») (l
 abbrev pub kindCode : ErrorKind → ℕ
 kindCode k = choose (number k ≟ number IllegalDataValue) 3 0
 
-abbrev pub codeOf : Reported → ℕ
-codeOf report.Done = 0
-codeOf (report.Refused k) = kindCode k
-codeOf report.IllegalFunction = 1
-codeOf report.IllegalDataAddress = 2
+abbrev pub reportCode : Reported → ℕ
+reportCode report.Done = 0
+reportCode (report.Refused k) = kindCode k
+reportCode report.IllegalFunction = 1
+reportCode report.IllegalDataAddress = 2
 
 unfoldable pub errorSetIfUnset : Reported → ModbusFrame → List ℕ → After
 errorSetIfUnset e s out =
     ended (do
       need (s .«response_len» ≤? length out) (refused OOB s out)
-      go (choose (codeOf e ≟ 0) (well s out) (errorSet (s .error) (codeOf e) s out)))
+      go (choose (reportCode e ≟ 0) (well s out) (errorSet (s .error) (reportCode e) s out)))
 
 -- ---- what the firmware reports of a request that it carried out
 
-abbrev pub readDone : Fn → ModbusFrame → List ℕ → After
+abbrev pub readDone : Ported → ModbusFrame → List ℕ → After
 readDone (reads t) s out = well s out
 readDone (one k) s out = refused WriteCallOnReadFrame s out
 readDone (many k) s out = refused WriteCallOnReadFrame s out
 
-abbrev pub writeDone : Fn → ModbusFrame → List ℕ → List ℕ → After
+abbrev pub writeDone : Ported → ModbusFrame → List ℕ → List ℕ → After
 writeDone (reads t) s buf out = refused ReadCallOnWriteFrame s out
 writeDone (one k) s buf out = writeEchoed s buf out
 writeDone (many k) s buf out = writeEchoed s buf out
@@ -128,29 +135,24 @@ writeDone (many k) s buf out = writeEchoed s buf out
 abbrev pub failedBy : ErrorKind → ModbusFrame → List ℕ → After
 failedBy k s out = choose (kindCode k ≟ 0) (refused k s out) (errorSet (s .error) (kindCode k) s out)
 
-abbrev pub readReported : Reported → ModbusFrame → List ℕ → After
-readReported report.Done s out = readDone (fnOf (s .func)) s out
-readReported (report.Refused k) s out = failedBy k s out
-readReported report.IllegalFunction s out = errorSet (s .error) 1 s out
-readReported report.IllegalDataAddress s out = errorSet (s .error) 2 s out
+-- what is left of a request that was done is given
+abbrev pub reported : Reported → After → ModbusFrame → List ℕ → After
+reported report.Done done s out = done
+reported (report.Refused k) done s out = failedBy k s out
+reported report.IllegalFunction done s out = errorSet (s .error) 1 s out
+reported report.IllegalDataAddress done s out = errorSet (s .error) 2 s out
 
-abbrev pub writeReported : Reported → ModbusFrame → List ℕ → List ℕ → After
-writeReported report.Done s buf out = writeDone (fnOf (s .func)) s buf out
-writeReported (report.Refused k) s buf out = failedBy k s out
-writeReported report.IllegalFunction s buf out = errorSet (s .error) 1 s out
-writeReported report.IllegalDataAddress s buf out = errorSet (s .error) 2 s out
-
-unfoldable pub externalReadProcessed : Reported → ModbusFrame → List ℕ → After
-externalReadProcessed e s out =
+unfoldable pub reportProcessed : Reported → After → ModbusFrame → List ℕ → After
+reportProcessed e done s out =
     ended (do
       need (s .«response_len» ≤? length out) (refused OOB s out)
-      go (readReported e s out))
+      go (reported e done s out))
 
-unfoldable pub externalWriteProcessed : Reported → ModbusFrame → List ℕ → List ℕ → After
-externalWriteProcessed e s buf out =
-    ended (do
-      need (s .«response_len» ≤? length out) (refused OOB s out)
-      go (writeReported e s buf out))
+abbrev pub externalReadProcessed : Reported → ModbusFrame → List ℕ → After
+externalReadProcessed e s out = reportProcessed e (readDone (portedOf (s .func)) s out) s out
+
+abbrev pub externalWriteProcessed : Reported → ModbusFrame → List ℕ → List ℕ → After
+externalWriteProcessed e s buf out = reportProcessed e (writeDone (portedOf (s .func)) s buf out) s out
 
 -- ---- what the firmware is to read: the response up to its data, and room for them, filled with 0
 
@@ -163,24 +165,21 @@ abbrev pub roomed : ℕ → ModbusFrame → Step Short Response → After × ℕ
 roomed bytes s (stop x) = (refused (x .why) (grown (x .at .len) s) (x .at .out), 0)
 roomed bytes s (go r) = roomSized s r (resized (r .out) (r .len) (r .len + bytes) 0)
 
-abbrev pub placed : Kind → ModbusFrame → After × ℕ → Found
-placed k s (a, at) =
-    choose (a .kind ≟ 0) (found (0, kindNumber k ∷ s .reg ∷ s .count ∷ at ∷ dataBytes k (s .count) ∷ []) (a .frame) (a .out)) (without a)
+abbrev pub roomTold : Kind → ModbusFrame → After × ℕ → Described
+roomTold k s (a, at) =
+    choose (a .kind ≟ 0) (described (0, kindNumber k ∷ s .reg ∷ s .count ∷ at ∷ dataBytes k (s .count) ∷ []) (a .frame) (a .out)) (without a)
 
-abbrev pub wanted : Kind → ModbusFrame → List ℕ → List ℕ → Found
+abbrev pub wanted : Kind → ModbusFrame → List ℕ → List ℕ → Described
 wanted k s buf out =
-    placed k s (roomed (dataBytes k (s .count)) s (head (s .proto) buf (s .«frame_start») (dataBytes k (s .count)) (responseOf s out)))
+    roomTold k s (roomed (dataBytes k (s .count)) s (head (s .proto) buf (s .«frame_start») (dataBytes k (s .count)) (responseOf s out)))
 
-abbrev pub readFoundBy : Fn → ModbusFrame → List ℕ → List ℕ → Found
-readFoundBy (reads t) s buf out = wanted (kindOf t) s buf out
-readFoundBy (one k) s buf out = without (refused WriteCallOnReadFrame s out)
-readFoundBy (many k) s buf out = without (refused WriteCallOnReadFrame s out)
+abbrev pub readDescribedBy : Ported → ModbusFrame → List ℕ → List ℕ → Described
+readDescribedBy (reads t) s buf out = wanted (kindOf t) s buf out
+readDescribedBy (one k) s buf out = without (refused WriteCallOnReadFrame s out)
+readDescribedBy (many k) s buf out = without (refused WriteCallOnReadFrame s out)
 
-unfoldable pub externalRead : ModbusFrame → List ℕ → List ℕ → Found
-externalRead s buf out =
-    foundBy (do
-      need (s .«response_len» ≤? length out) (refused OOB s out)
-      go (readFoundBy (fnOf (s .func)) s buf out))
+abbrev pub externalRead : ModbusFrame → List ℕ → List ℕ → Described
+externalRead s buf out = guarded readDescribedBy s buf out
 
 -- ---- what the firmware is to write
 
@@ -192,43 +191,39 @@ indexed buf start a e = do
   go 0
 
 -- a coil's value that is neither FF00 nor 0000 sets its error, where that has room, and is refused
-abbrev pub illegal : After → Found
-illegal a = choose (a .kind ≟ 0) (without (after (number IllegalDataValue) (a .frame) (a .out))) (without a)
+abbrev pub valueRefused : After → Described
+valueRefused a = choose (a .kind ≟ 0) (without (after (number IllegalDataValue) (a .frame) (a .out))) (without a)
 
-unfoldable pub coilFound : ModbusFrame → List ℕ → List ℕ → Found
-coilFound s buf out =
-    foundBy (do
+unfoldable pub coilDescribed : ModbusFrame → List ℕ → List ℕ → Described
+coilDescribed s buf out =
+    describedBy (do
       there ← orLeave s out (indexed buf (s .«frame_start») 4 6)
-      go (choose (legal? bit (second s buf)) (found (0, 0 ∷ s .reg ∷ 1 ∷ 0 ∷ valueOf bit (second s buf) ∷ []) s out)
-          (illegal (errorSet (s .error) 3 s out))))
+      go (choose (legal? bit (secondWord s buf)) (described (0, 0 ∷ s .reg ∷ 1 ∷ 0 ∷ valueOf bit (secondWord s buf) ∷ []) s out)
+          (valueRefused (errorSet (s .error) 3 s out))))
 
-unfoldable pub holdingFound : ModbusFrame → List ℕ → List ℕ → Found
-holdingFound s buf out =
-    foundBy (do
+unfoldable pub holdingDescribed : ModbusFrame → List ℕ → List ℕ → Described
+holdingDescribed s buf out =
+    describedBy (do
       there ← orLeave s out (indexed buf (s .«frame_start») 6 6)
-      go (found (0, 1 ∷ s .reg ∷ 1 ∷ 1 ∷ (s .«frame_start» + 4) ∷ 2 ∷ []) s out))
+      go (described (0, 1 ∷ s .reg ∷ 1 ∷ 1 ∷ (s .«frame_start» + 4) ∷ 2 ∷ []) s out))
 
 -- how many data bytes a write of many has
 unfoldable pub dataLen : ModbusFrame → List ℕ → Step ErrorKind ℕ
 dataLen s buf = do
   there ← indexed buf (s .«frame_start») 6 7
-  need (s .«frame_start» + 7 + byteCount s buf ≤? length buf) FrameBroken
-  go (byteCount s buf)
+  dataBehind buf (s .«frame_start»)
 
-unfoldable pub manyFound : Kind → ModbusFrame → List ℕ → List ℕ → Found
-manyFound k s buf out =
-    foundBy (do
+unfoldable pub manyDescribed : Kind → ModbusFrame → List ℕ → List ℕ → Described
+manyDescribed k s buf out =
+    describedBy (do
       n ← orLeave s out (dataLen s buf)
-      go (found (0, kindNumber k ∷ s .reg ∷ s .count ∷ 1 ∷ (s .«frame_start» + 7) ∷ n ∷ []) s out))
+      go (described (0, kindNumber k ∷ s .reg ∷ s .count ∷ 1 ∷ (s .«frame_start» + 7) ∷ n ∷ []) s out))
 
-abbrev pub writeFoundBy : Fn → ModbusFrame → List ℕ → List ℕ → Found
-writeFoundBy (reads t) s buf out = without (refused ReadCallOnWriteFrame s out)
-writeFoundBy (one bit) s buf out = coilFound s buf out
-writeFoundBy (one word) s buf out = holdingFound s buf out
-writeFoundBy (many k) s buf out = manyFound k s buf out
+abbrev pub writeDescribedBy : Ported → ModbusFrame → List ℕ → List ℕ → Described
+writeDescribedBy (reads t) s buf out = without (refused ReadCallOnWriteFrame s out)
+writeDescribedBy (one bit) s buf out = coilDescribed s buf out
+writeDescribedBy (one word) s buf out = holdingDescribed s buf out
+writeDescribedBy (many k) s buf out = manyDescribed k s buf out
 
-unfoldable pub externalWrite : ModbusFrame → List ℕ → List ℕ → Found
-externalWrite s buf out =
-    foundBy (do
-      need (s .«response_len» ≤? length out) (refused OOB s out)
-      go (writeFoundBy (fnOf (s .func)) s buf out))
+abbrev pub externalWrite : ModbusFrame → List ℕ → List ℕ → Described
+externalWrite s buf out = guarded writeDescribedBy s buf out

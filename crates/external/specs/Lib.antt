@@ -1,2 +1,2 @@
 pub mod External
-pub mod Parts
+pub mod Answers

@@ -6,10 +6,8 @@ use mathlib.Core.Path.{_≡_, refl, sym, ap, _∙_}
 use mathlib.Core.List.{List, []}
 use Prim.Native.Nat.{ℕ, suc, _+_, _≤_, _<_}
 use native.Mathlib.Omega.{arith}
-use lib.Dec.{ltb}
 use lib.ListN.{length, take}
-use borrow.Author.Tests.{lt-ltb, le-ltb}
-use Rattle.modbus.specs.Step.{Step, stop, go, _>>=_, choose, _≤?_}
+use Rattle.modbus.specs.Step.{Step, stop, go, _>>=_, choose}
 use Rattle.modbus.specs.Paper.{told, donePaper, sizePaper, toldWith}
 use Rattle.modbus.specs.Unit.{listed?}
 use Rattle.modbus.specs.declared.ErrorKind.{ErrorKind}
@@ -20,15 +18,15 @@ use Rattle.modbus.specs.declared.DoneAnswer.{DoneAnswer}
 use Rattle.modbus.specs.declared.DoneAnswer.the-variants.{Done, Refused}
 use Rattle.modbus.specs.declared.SizeAnswer.{SizeAnswer}
 use Rattle.modbus.specs.declared.SizeAnswer.the-variants as size
-use Rattle.modbus.proofs.StepLaws.{pass, fail, follow, halt, either, holds, holds-not, test-refuses, test-passes}
+use Rattle.modbus.proofs.StepLaws.{pass, fail, follow, halt, holds, holds-not, test-refuses, test-passes}
 use Rattle.modbus.proofs.PaperLaws.{told-same, value-with, refusal-with}
-use Rattle.modbus.proofs.DriveLaws.{find-fn, find-none}
+use Rattle.modbus.proofs.FindLaws.{find-ported, find-none}
 use Rattle.response.specs.Bounded.{extended}
 use Rattle.response.proofs.BoundedLaws.{extended-fits}
-use Rattle.incoming.specs.Request.{begins, checked}
-use Rattle.incoming.proofs.RequestLaws.{tcp-begun, tcp-checked}
-use Rattle.frame.specs.State.{fnOf, functionOf, started, grown, respondingTo, withFunc, withError, answering, counting, toProcess, After, well, refused, ended}
-use Rattle.frame.specs.Parse.{orLeave, answered, first, second, byteCount, readAccepted, readParsed, oneParsed, manyAccepted, Countable, countable?, manyParsed, requested, unsupported, functionByte, named, header, copiesHeader, Headed, forUs, unitByte, addressed, parsed}
+use Rattle.incoming.specs.Envelope.{begins, checkFollows, Countable, countable?}
+use Rattle.incoming.proofs.EnvelopeLaws.{tcp-begun}
+use Rattle.frame.specs.State.{portedOf, functionOf, started, grown, respondingTo, withFunc, withError, answering, counting, toProcess, After, well, refused, ended}
+use Rattle.frame.specs.Parse.{orLeave, answered, firstWord, secondWord, byteCount, readAccepted, readParsed, oneParsed, manyAccepted, manyParsed, requested, unsupported, functionByte, functionNamed, header, copiesHeader, Headed, forUs, unitByte, addressed, frameParsed}
 use Rattle.frame.specs.declared.ModbusFunction.{ModbusFunction}
 use Rattle.frame.specs.declared.FunctionAnswer.the-variants.{Value, Unsupported}
 use Rattle.frame.specs.declared.ModbusFrame.{ModbusFrame}
@@ -57,12 +55,12 @@ module _ {B : Type 0} (s : ModbusFrame) (out : List ℕ) (m : Step ErrorKind ℕ
 -- ---- a read
 
 -- n is the second word
-module _ (most : ℕ) (s : ModbusFrame) (buf out : List ℕ) (n : ℕ) (e : n ≡ second s buf) where
+module _ (most : ℕ) (s : ModbusFrame) (buf out : List ℕ) (n : ℕ) (e : n ≡ secondWord s buf) where
   pub read-excess : most < n
       → ended (readAccepted most s buf out) ≡ well (withError 3 (counting n (answering true s))) out
-  read-excess h = rw e (ap ended (fail _ _ _ (λ (k : second s buf ≤ most). omega arith)))
+  read-excess h = rw e (ap ended (fail _ _ _ (λ (k : secondWord s buf ≤ most). omega arith)))
 
-  pub read-accepted : n ≤ most → (m : ℕ) → m ≡ first s buf
+  pub read-accepted : n ≤ most → (m : ℕ) → m ≡ firstWord s buf
       → ended (readAccepted most s buf out) ≡ well (toProcess (s .readonly) m (counting n (answering true s))) out
   read-accepted h m q = rw (e, q) (ap ended (pass _ _ _ (omega arith)))
 
@@ -76,7 +74,7 @@ module _ (most : ℕ) (broadcast : Bool) (s : ModbusFrame) (buf out : List ℕ) 
     read-short h = rw b (ap ended (fail _ _ _ (λ (k : s .«frame_start» + 6 ≤ length buf). omega arith)))
 
     module _ (h : s .«frame_start» + 6 ≤ length buf) (r : DoneAnswer)
-        (e : donePaper r ≡ told (checked (s .proto) buf (s .«frame_start») 6)) where
+        (e : donePaper r ≡ told (checkFollows (s .proto) buf (s .«frame_start») 6)) where
       pub read-refused : (k : ErrorKind) → r ≡ Refused k → ended (readParsed most broadcast s buf out) ≡ refused k s out
       read-refused k q = rw b (ap ended (pass _ _ _ h ∙ check-refused _ _ _ _ r e k q))
 
@@ -90,86 +88,74 @@ module _ (broadcast : Bool) (s : ModbusFrame) (buf out : List ℕ) where
   one-short h = ap ended (fail _ _ _ (λ (k : s .«frame_start» + 4 ≤ length buf). omega arith))
 
   module _ (h : s .«frame_start» + 4 ≤ length buf) (r : DoneAnswer)
-      (e : donePaper r ≡ told (checked (s .proto) buf (s .«frame_start») 6)) where
+      (e : donePaper r ≡ told (checkFollows (s .proto) buf (s .«frame_start») 6)) where
     pub one-refused : (k : ErrorKind) → r ≡ Refused k → ended (oneParsed broadcast s buf out) ≡ refused k s out
     one-refused k q = ap ended (pass _ _ _ h ∙ check-refused _ _ _ _ r e k q)
 
-    pub one-checked : r ≡ Done → (a : ModbusFrame) → a ≡ answered broadcast s → (n : ℕ) → n ≡ first s buf
+    pub one-checked : r ≡ Done → (a : ModbusFrame) → a ≡ answered broadcast s → (n : ℕ) → n ≡ firstWord s buf
         → ended (oneParsed broadcast s buf out) ≡ well (toProcess false n (counting 1 a)) out
     one-checked q a p n f = rw (p, f) (ap ended (pass _ _ _ h ∙ check-done _ _ _ _ r e q))
 
 -- ---- a write of many
 
 -- n is the second word, a the state with the answer asked for
-module _ (most : ℕ) (broadcast : Bool) (s : ModbusFrame) (buf out : List ℕ) (n : ℕ) (e : n ≡ second s buf)
+module _ (most : ℕ) (broadcast : Bool) (s : ModbusFrame) (buf out : List ℕ) (n : ℕ) (e : n ≡ secondWord s buf)
     (a : ModbusFrame) (p : a ≡ answered broadcast s) where
   pub many-excess : most < n → ended (manyAccepted most broadcast s buf out) ≡ well (withError 3 (counting n a)) out
-  many-excess h = rw (e, p) (ap ended (fail _ _ _ (λ (k : second s buf ≤ most). omega arith)))
+  many-excess h = rw (e, p) (ap ended (fail _ _ _ (λ (k : secondWord s buf ≤ most). omega arith)))
 
   pub many-long : n ≤ most → 246 < byteCount s buf
       → ended (manyAccepted most broadcast s buf out) ≡ well (withError 3 (counting n a)) out
   many-long h l =
       rw (e, p) (ap ended (pass _ _ _ (omega arith) ∙ fail _ _ _ (λ (k : byteCount s buf ≤ 246). omega arith)))
 
-  pub many-accepted : n ≤ most → byteCount s buf ≤ 246 → (m : ℕ) → m ≡ first s buf
+  pub many-accepted : n ≤ most → byteCount s buf ≤ 246 → (m : ℕ) → m ≡ firstWord s buf
       → ended (manyAccepted most broadcast s buf out) ≡ well (toProcess false m (counting n a)) out
   many-accepted h l m q = rw (e, p, q) (ap ended (pass _ _ _ (omega arith) ∙ pass _ _ _ l))
-
-pub overflows : (bytes : ℕ) → ltb 248 bytes ≡ choose (bytes ≤? 248) false true
-overflows bytes =
-    either (λ (r : Bool). ltb 248 bytes ≡ r) _ _ _ (λ h. le-ltb _ _ h) (λ n. lt-ltb 248 bytes (omega arith))
-
--- the code's length is that of the check, where there is one
-counted : (p : ModbusProto) (buf : List ℕ) (start n bytes : ℕ) → (bytes ≤ 248 → n ≡ 7 + bytes) → Countable p bytes
-    → checked p buf start n ≡ checked p buf start (7 + bytes)
-counted Rtu buf start n bytes e h = ap (checked Rtu buf start) (e h)
-counted Ascii buf start n bytes e h = ap (checked Ascii buf start) (e h)
-counted TcpUdp buf start n bytes e h = tcp-checked buf start n ∙ sym (tcp-checked buf start (7 + bytes))
 
 module _ (most : ℕ) (broadcast : Bool) (given s : ModbusFrame) (buf out : List ℕ) where
   pub many-short : length buf < s .«frame_start» + 7
       → ended (manyParsed most broadcast given s buf out) ≡ refused FrameBroken s out
   many-short h = ap ended (fail _ _ _ (λ (k : s .«frame_start» + 7 ≤ length buf). omega arith))
 
-  -- t is the code's test of the byte count
-  module _ (h : s .«frame_start» + 7 ≤ length buf) (t : Bool)
-      (g : t ≡ choose (countable? (s .proto) (byteCount s buf)) false true) where
+  -- n is the length of the check, t the code's test of it
+  module _ (h : s .«frame_start» + 7 ≤ length buf) (n : ℕ) (l : n ≡ 7 + byteCount s buf) (t : Bool)
+      (g : t ≡ choose (countable? (s .proto) n) false true) where
     pub many-overflows : t ≡ true → ended (manyParsed most broadcast given s buf out) ≡ refused FrameBroken given out
-    many-overflows w = ap ended (pass _ _ _ h ∙ fail _ _ _ (test-refuses _ t g w))
+    many-overflows w = ap ended (pass _ _ _ h ∙ fail _ _ _ (rw l at (test-refuses _ t g w)))
 
-    module _ (w : t ≡ false) (n : ℕ) (l : byteCount s buf ≤ 248 → n ≡ 7 + byteCount s buf) (r : DoneAnswer)
-        (e : donePaper r ≡ told (checked (s .proto) buf (s .«frame_start») n)) where
-      paper : donePaper r ≡ told (checked (s .proto) buf (s .«frame_start») (7 + byteCount s buf))
-      paper = e ∙ ap told (counted (s .proto) buf (s .«frame_start») n (byteCount s buf) l (test-passes _ t g w))
+    module _ (w : t ≡ false) (r : DoneAnswer) (e : donePaper r ≡ told (checkFollows (s .proto) buf (s .«frame_start») n)) where
+      countable : Countable (s .proto) (7 + byteCount s buf)
+      countable = rw l at (test-passes _ t g w)
 
       pub many-refused : (k : ErrorKind) → r ≡ Refused k
           → ended (manyParsed most broadcast given s buf out) ≡ refused k s out
-      many-refused k q = ap ended (pass _ _ _ h ∙ pass _ _ _ (test-passes _ t g w) ∙ check-refused _ _ _ _ r paper k q)
+      many-refused k q = ap ended (pass _ _ _ h ∙ pass _ _ _ countable ∙ check-refused _ _ _ _ r (rw l at e) k q)
 
       pub many-checked : r ≡ Done
           → ended (manyParsed most broadcast given s buf out) ≡ ended (manyAccepted most broadcast s buf out)
-      many-checked q = ap ended (pass _ _ _ h ∙ pass _ _ _ (test-passes _ t g w) ∙ check-done _ _ _ _ r paper q)
+      many-checked q = ap ended (pass _ _ _ h ∙ pass _ _ _ countable ∙ check-done _ _ _ _ r (rw l at e) q)
 
 -- ---- the function
 
 module _ (broadcast : Bool) (s : ModbusFrame) (buf out : List ℕ) where
-  pub named-short : length buf < s .«frame_start» + 2 → named broadcast s buf out ≡ refused FrameBroken s out
-  unfolding named
+  pub named-short : length buf < s .«frame_start» + 2 → functionNamed broadcast s buf out ≡ refused FrameBroken s out
+  unfolding functionNamed
   named-short h = ap ended (fail _ _ _ (λ (k : s .«frame_start» + 2 ≤ length buf). omega arith))
 
   module _ (h : s .«frame_start» + 2 ≤ length buf) where
     pub named-unsupported : functionOf (functionByte s buf) ≡ Unsupported
-        → named broadcast s buf out ≡ well (unsupported broadcast (respondingTo (functionByte s buf) s)) out
-    unfolding named
-    named-unsupported e = ap ended (pass _ _ _ h ∙ halt _ _ (find-none _ _ (function-missing _ e) _))
+        → functionNamed broadcast s buf out ≡ well (unsupported broadcast (respondingTo (functionByte s buf) s)) out
+    unfolding functionNamed
+    named-unsupported e = ap ended (pass _ _ _ h ∙ halt _ _ (find-none _ _ _ (function-missing _ e) _))
 
     pub named-supported : (f : ModbusFunction) → functionOf (functionByte s buf) ≡ Value f
         → (t : ModbusFrame) → t ≡ withFunc f (respondingTo (functionByte s buf) s)
-        → named broadcast s buf out ≡ ended (requested (fnOf f) broadcast s t buf out)
-    unfolding named
+        → functionNamed broadcast s buf out ≡ ended (requested (portedOf f) broadcast s t buf out)
+    unfolding functionNamed
     named-supported f e t w =
         function-found _ f e λ fn p q.
-        ap ended (pass _ _ _ h ∙ follow _ _ (find-fn _ _ fn p)) ∙ (rw (w, ← q, fn-back))
+        ap ended (pass _ _ _ h ∙ follow _ _ (find-ported _ _ fn p)) ∙ (rw (w, ← q, fn-back))
 
 -- ---- the unit
 
@@ -195,12 +181,12 @@ header-there false TcpUdp buf e h = h
 
 module _ (broadcast : Bool) (s : ModbusFrame) (buf out : List ℕ) where
   pub us-bare : copiesHeader broadcast (s .proto) ≡ false → s .«response_len» ≤ length out
-      → ended (forUs broadcast s buf out) ≡ named broadcast s buf out
+      → ended (forUs broadcast s buf out) ≡ functionNamed broadcast s buf out
   us-bare e h =
       let k : s .«response_len» + 0 ≡ s .«response_len» = omega arith in
       let x = extended-fits out (s .«response_len») [] (omega arith) in
       rw (header-copied broadcast (s .proto) buf, e)
-      (ap ended (stay _ _ _ _ x) ∙ ap (λ (n : ℕ). named broadcast (grown n s) buf out) k)
+      (ap ended (stay _ _ _ _ x) ∙ ap (λ (n : ℕ). functionNamed broadcast (grown n s) buf out) k)
 
   -- r is what the code answered, and now what the slice then held
   module _ (e : copiesHeader broadcast (s .proto) ≡ true) (r : SizeAnswer) (now : List ℕ)
@@ -210,7 +196,7 @@ module _ (broadcast : Bool) (s : ModbusFrame) (buf out : List ℕ) where
         let w = refusal-with out now _ k (rw q at p) in
         rw (header-copied broadcast (s .proto) buf, e, w .1) (ap ended (leave _ _ _ _ (w .0)))
 
-    pub us-headed : (n : ℕ) → r ≡ size.Value n → ended (forUs broadcast s buf out) ≡ named broadcast (grown n s) buf now
+    pub us-headed : (n : ℕ) → r ≡ size.Value n → ended (forUs broadcast s buf out) ≡ functionNamed broadcast (grown n s) buf now
     us-headed n q =
         rw (header-copied broadcast (s .proto) buf, e)
         (ap ended (stay _ _ _ _ (value-with out now _ n (rw q at p))))
@@ -249,8 +235,8 @@ headed Ascii start buf e = tt
 headed TcpUdp start buf e = omega (arith, tcp-begun start buf e)
 
 pub parse-exceeds : (s : ModbusFrame) (buf list out : List ℕ) → length out < s .«response_len»
-    → parsed s buf list out ≡ refused OOB s out
-unfolding parsed
+    → frameParsed s buf list out ≡ refused OOB s out
+unfolding frameParsed
 parse-exceeds s buf list out h = ap ended (fail _ _ _ (λ (k : s .«response_len» ≤ length out). omega arith))
 
 -- r is what the code answered
@@ -260,10 +246,10 @@ module _ (s : ModbusFrame) (buf : List ℕ) (r : SizeAnswer)
   parse-headed n q = headed _ _ buf (told-same _ (go n) (sym e ∙ ap sizePaper q))
 
   module _ (list out : List ℕ) (h : s .«response_len» ≤ length out) where
-    pub parse-broken : (k : ErrorKind) → r ≡ size.Refused k → parsed s buf list out ≡ refused k s out
-    unfolding parsed
+    pub parse-broken : (k : ErrorKind) → r ≡ size.Refused k → frameParsed s buf list out ≡ refused k s out
+    unfolding frameParsed
     parse-broken k q = ap ended (pass _ _ _ h ∙ leave _ _ _ _ (told-same _ (stop k) (sym e ∙ ap sizePaper q)))
 
-    pub parse-begun : (n : ℕ) → r ≡ size.Value n → parsed s buf list out ≡ addressed (started n s) buf list out
-    unfolding parsed
+    pub parse-begun : (n : ℕ) → r ≡ size.Value n → frameParsed s buf list out ≡ addressed (started n s) buf list out
+    unfolding frameParsed
     parse-begun n q = ap ended (pass _ _ _ h ∙ stay _ _ _ _ (told-same _ (go n) (sym e ∙ ap sizePaper q)))

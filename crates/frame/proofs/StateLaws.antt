@@ -7,17 +7,17 @@ use Prim.Native.Nat.{ℕ}
 use native.Mathlib.Omega.{arith}
 use Rattle.modbus.specs.Step.{Step, stop, go}
 use Rattle.modbus.specs.Table.{coils, discretes, holdings, inputs, bit, word}
-use Rattle.modbus.specs.Request.{Fn, reads, one, many, code, functions}
+use Rattle.modbus.specs.Ported.{Ported, reads, one, many, codeOf, allPorted}
 use Rattle.modbus.specs.Drive.{find}
-use Rattle.modbus.proofs.DriveLaws.{find-fn, found-fn, find-none}
-use Rattle.frame.specs.State.{funcOf, fnOf, foundAs, functionOf, leftPaper}
+use Rattle.modbus.proofs.FindLaws.{find-ported, found-fn, find-none}
+use Rattle.frame.specs.State.{funcOf, portedOf, foundAs, functionOf, leftPaper}
 use Rattle.frame.specs.declared.ModbusFunction.{ModbusFunction}
 use Rattle.frame.specs.declared.FunctionAnswer.the-variants.{Value, Unsupported}
 use Rattle.frame.specs.declared.Left.{Left}
 
 -- ---- the functions
 
-pub fn-back : (fn : Fn) → fnOf (funcOf fn) ≡ fn
+pub fn-back : (fn : Ported) → portedOf (funcOf fn) ≡ fn
 fn-back (reads coils) = refl
 fn-back (reads discretes) = refl
 fn-back (reads holdings) = refl
@@ -27,25 +27,25 @@ fn-back (one word) = refl
 fn-back (many bit) = refl
 fn-back (many word) = refl
 
-pub function-known : (n : ℕ) (fn : Fn) → n ≡ code fn → functionOf n ≡ Value (funcOf fn)
+pub function-known : (n : ℕ) (fn : Ported) → n ≡ codeOf fn → functionOf n ≡ Value (funcOf fn)
 unfolding functionOf
-function-known n fn e = ap foundAs (find-fn tt n fn e)
+function-known n fn e = ap foundAs (find-ported tt n fn e)
 
-pub function-none : (n : ℕ) → ((fn : Fn) → n ≢ code fn) → functionOf n ≡ Unsupported
+pub function-none : (n : ℕ) → ((fn : Ported) → n ≢ codeOf fn) → functionOf n ≡ Unsupported
 unfolding functionOf
-function-none n h = ap foundAs (find-none tt n h functions)
+function-none n h = ap foundAs (find-none codeOf tt n h allPorted)
 
 -- a function that was found has the number, and a number of none is no function's
 pub function-found : {C : Type 0} (n : ℕ) (f : ModbusFunction) → functionOf n ≡ Value f
-    → ((fn : Fn) → n ≡ code fn → funcOf fn ≡ f → C) → C
+    → ((fn : Ported) → n ≡ codeOf fn → funcOf fn ≡ f → C) → C
 unfolding functionOf
-function-found {C} n f e k = by (find tt n functions) refl e
+function-found {C} n f e k = by (find codeOf tt n allPorted) refl e
   where
-    by : (m : Step (Unit {0}) Fn) → find tt n functions ≡ m → foundAs m ≡ Value f → C
-    by (go fn) p q = let z : funcOf fn ≡ f = cc in k fn (found-fn _ _ _ fn p) z
+    by : (m : Step (Unit {0}) Ported) → find codeOf tt n allPorted ≡ m → foundAs m ≡ Value f → C
+    by (go fn) p q = let z : funcOf fn ≡ f = cc in k fn (found-fn codeOf _ _ _ fn p) z
     by (stop u) p q = let z : _≡_ {A = ℕ} 0 1 = cc in absurd (omega arith)
 
-pub function-missing : (n : ℕ) → functionOf n ≡ Unsupported → (fn : Fn) → n ≢ code fn
+pub function-missing : (n : ℕ) → functionOf n ≡ Unsupported → (fn : Ported) → n ≢ codeOf fn
 function-missing n e fn p =
     let q = function-known n fn p in
     let z : _≡_ {A = ℕ} 0 1 = cc in

@@ -3,7 +3,7 @@
 use mathlib.Core.List.{List, [], _∷_}
 use Prim.Native.Nat.{ℕ}
 use Rattle.modbus.specs.Table.{Kind, bit, word}
-use Rattle.modbus.specs.Request.{Fn, reads, one, many}
+use Rattle.modbus.specs.Ported.{Ported, reads, one, many}
 use Rattle.frame.specs.declared.changes.Changes.{Changes}
 use Rattle.frame.specs.declared.changes.Changes.the-variants.{Coils, Holdings, Nothing}
 
@@ -17,7 +17,7 @@ changesPaper Nothing = []
 changesPaper (Coils reg count) = 0 ∷ reg ∷ count ∷ []
 changesPaper (Holdings reg count) = 1 ∷ reg ∷ count ∷ []
 
-abbrev pub changesBy : Fn → ℕ → ℕ → List ℕ
+abbrev pub changesBy : Ported → ℕ → ℕ → List ℕ
 changesBy (reads t) reg count = []
 changesBy (one k) reg count = kindNumber k ∷ reg ∷ 1 ∷ []
 changesBy (many k) reg count = kindNumber k ∷ reg ∷ count ∷ []

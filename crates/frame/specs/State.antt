@@ -5,7 +5,7 @@ use mathlib.Core.List.{List}
 use Prim.Native.Nat.{ℕ}
 use Rattle.modbus.specs.Step.{Step, stop, go}
 use Rattle.modbus.specs.Table.{coils, discretes, holdings, inputs, bit, word}
-use Rattle.modbus.specs.Request.{Fn, reads, one, many, functions}
+use Rattle.modbus.specs.Ported.{Ported, reads, one, many, codeOf, allPorted}
 use Rattle.modbus.specs.Drive.{find}
 use Rattle.modbus.specs.Paper.{number, donePaper}
 use Rattle.modbus.specs.declared.ErrorKind.{ErrorKind}
@@ -13,15 +13,16 @@ use Rattle.modbus.specs.declared.ModbusProto.{ModbusProto}
 use Rattle.modbus.specs.declared.DoneAnswer.the-variants.{Done, Refused}
 use Rattle.frame.specs.declared.ModbusFunction.{ModbusFunction}
 use Rattle.frame.specs.declared.ModbusFunction.the-variants.{GetCoils, GetDiscretes, GetHoldings, GetInputs, SetCoil, SetHolding, SetCoilsBulk, SetHoldingsBulk}
+use Rattle.frame.specs.declared.ModbusError.{ModbusError}
 use Rattle.frame.specs.declared.ModbusError.the-variants.{Unset, Code}
 use Rattle.frame.specs.declared.FunctionAnswer.{FunctionAnswer}
 use Rattle.frame.specs.declared.FunctionAnswer.the-variants.{Value, Unsupported}
 use Rattle.frame.specs.declared.ModbusFrame.{ModbusFrame}
 use Rattle.frame.specs.declared.Left.{Left}
 
--- ---- the functions by their names, whose numbers are `code`'s
+-- ---- the functions by their names, whose numbers are `codeOf`'s
 
-abbrev pub funcOf : Fn → ModbusFunction
+abbrev pub funcOf : Ported → ModbusFunction
 funcOf (reads coils) = GetCoils
 funcOf (reads discretes) = GetDiscretes
 funcOf (reads holdings) = GetHoldings
@@ -31,183 +32,91 @@ funcOf (one word) = SetHolding
 funcOf (many bit) = SetCoilsBulk
 funcOf (many word) = SetHoldingsBulk
 
-abbrev pub fnOf : ModbusFunction → Fn
-fnOf GetCoils = reads coils
-fnOf GetDiscretes = reads discretes
-fnOf GetHoldings = reads holdings
-fnOf GetInputs = reads inputs
-fnOf SetCoil = one bit
-fnOf SetHolding = one word
-fnOf SetCoilsBulk = many bit
-fnOf SetHoldingsBulk = many word
+abbrev pub portedOf : ModbusFunction → Ported
+portedOf GetCoils = reads coils
+portedOf GetDiscretes = reads discretes
+portedOf GetHoldings = reads holdings
+portedOf GetInputs = reads inputs
+portedOf SetCoil = one bit
+portedOf SetHolding = one word
+portedOf SetCoilsBulk = many bit
+portedOf SetHoldingsBulk = many word
 
 -- the function of a number, if it is served
-abbrev pub foundAs : Step (Unit {0}) Fn → FunctionAnswer
+abbrev pub foundAs : Step (Unit {0}) Ported → FunctionAnswer
 foundAs (go fn) = Value (funcOf fn)
 foundAs (stop u) = Unsupported
 
 unfoldable pub functionOf : ℕ → FunctionAnswer
-functionOf n = foundAs (find tt n functions)
+functionOf n = foundAs (find codeOf tt n allPorted)
 
--- ---- the state that `new` makes: the response is cleared
+-- ---- a state by its fields, in the order of the record
 
-abbrev pub fresh : ℕ → ModbusProto → ModbusFrame
-fresh unit p =
+abbrev pub stateOf : ℕ → ModbusProto → Bool → Bool → ℕ → Bool → ℕ → ModbusFunction → ℕ → ℕ → ModbusError → ℕ → ModbusFrame
+stateOf unit p processing response function readonly start f first n e len =
     record {
       «unit_id» = unit;
       proto = p;
-      «processing_required» = false;
-      «response_required» = false;
-      «responding_to_fn» = 0;
-      readonly = true;
-      «frame_start» = 0;
-      func = GetCoils;
-      reg = 0;
-      count = 1;
-      error = Unset;
-      «response_len» = 0;
+      «processing_required» = processing;
+      «response_required» = response;
+      «responding_to_fn» = function;
+      readonly = readonly;
+      «frame_start» = start;
+      func = f;
+      reg = first;
+      count = n;
+      error = e;
+      «response_len» = len;
     }
+
+-- the state that `new` makes: the response is cleared
+abbrev pub fresh : ℕ → ModbusProto → ModbusFrame
+fresh unit p = stateOf unit p false false 0 true 0 GetCoils 0 1 Unset 0
 
 -- ---- a state with one thing changed
 
 abbrev pub started : ℕ → ModbusFrame → ModbusFrame
 started n s =
-    record {
-      «unit_id» = s .«unit_id»;
-      proto = s .proto;
-      «processing_required» = s .«processing_required»;
-      «response_required» = s .«response_required»;
-      «responding_to_fn» = s .«responding_to_fn»;
-      readonly = s .readonly;
-      «frame_start» = n;
-      func = s .func;
-      reg = s .reg;
-      count = s .count;
-      error = s .error;
-      «response_len» = s .«response_len»;
-    }
+    stateOf (s .«unit_id») (s .proto) (s .«processing_required») (s .«response_required») (s .«responding_to_fn») (s .readonly)
+    n (s .func) (s .reg) (s .count) (s .error) (s .«response_len»)
 
 abbrev pub grown : ℕ → ModbusFrame → ModbusFrame
 grown n s =
-    record {
-      «unit_id» = s .«unit_id»;
-      proto = s .proto;
-      «processing_required» = s .«processing_required»;
-      «response_required» = s .«response_required»;
-      «responding_to_fn» = s .«responding_to_fn»;
-      readonly = s .readonly;
-      «frame_start» = s .«frame_start»;
-      func = s .func;
-      reg = s .reg;
-      count = s .count;
-      error = s .error;
-      «response_len» = n;
-    }
+    stateOf (s .«unit_id») (s .proto) (s .«processing_required») (s .«response_required») (s .«responding_to_fn») (s .readonly)
+    (s .«frame_start») (s .func) (s .reg) (s .count) (s .error) n
 
 abbrev pub respondingTo : ℕ → ModbusFrame → ModbusFrame
 respondingTo n s =
-    record {
-      «unit_id» = s .«unit_id»;
-      proto = s .proto;
-      «processing_required» = s .«processing_required»;
-      «response_required» = s .«response_required»;
-      «responding_to_fn» = n;
-      readonly = s .readonly;
-      «frame_start» = s .«frame_start»;
-      func = s .func;
-      reg = s .reg;
-      count = s .count;
-      error = s .error;
-      «response_len» = s .«response_len»;
-    }
+    stateOf (s .«unit_id») (s .proto) (s .«processing_required») (s .«response_required») n (s .readonly)
+    (s .«frame_start») (s .func) (s .reg) (s .count) (s .error) (s .«response_len»)
 
 abbrev pub withFunc : ModbusFunction → ModbusFrame → ModbusFrame
 withFunc f s =
-    record {
-      «unit_id» = s .«unit_id»;
-      proto = s .proto;
-      «processing_required» = s .«processing_required»;
-      «response_required» = s .«response_required»;
-      «responding_to_fn» = s .«responding_to_fn»;
-      readonly = s .readonly;
-      «frame_start» = s .«frame_start»;
-      func = f;
-      reg = s .reg;
-      count = s .count;
-      error = s .error;
-      «response_len» = s .«response_len»;
-    }
+    stateOf (s .«unit_id») (s .proto) (s .«processing_required») (s .«response_required») (s .«responding_to_fn») (s .readonly)
+    (s .«frame_start») f (s .reg) (s .count) (s .error) (s .«response_len»)
 
 -- an exception's code set
 abbrev pub withError : ℕ → ModbusFrame → ModbusFrame
 withError c s =
-    record {
-      «unit_id» = s .«unit_id»;
-      proto = s .proto;
-      «processing_required» = s .«processing_required»;
-      «response_required» = s .«response_required»;
-      «responding_to_fn» = s .«responding_to_fn»;
-      readonly = s .readonly;
-      «frame_start» = s .«frame_start»;
-      func = s .func;
-      reg = s .reg;
-      count = s .count;
-      error = Code c;
-      «response_len» = s .«response_len»;
-    }
+    stateOf (s .«unit_id») (s .proto) (s .«processing_required») (s .«response_required») (s .«responding_to_fn») (s .readonly)
+    (s .«frame_start») (s .func) (s .reg) (s .count) (Code c) (s .«response_len»)
 
 -- whether a response is required
 abbrev pub answering : Bool → ModbusFrame → ModbusFrame
 answering b s =
-    record {
-      «unit_id» = s .«unit_id»;
-      proto = s .proto;
-      «processing_required» = s .«processing_required»;
-      «response_required» = b;
-      «responding_to_fn» = s .«responding_to_fn»;
-      readonly = s .readonly;
-      «frame_start» = s .«frame_start»;
-      func = s .func;
-      reg = s .reg;
-      count = s .count;
-      error = s .error;
-      «response_len» = s .«response_len»;
-    }
+    stateOf (s .«unit_id») (s .proto) (s .«processing_required») b (s .«responding_to_fn») (s .readonly)
+    (s .«frame_start») (s .func) (s .reg) (s .count) (s .error) (s .«response_len»)
 
 abbrev pub counting : ℕ → ModbusFrame → ModbusFrame
 counting n s =
-    record {
-      «unit_id» = s .«unit_id»;
-      proto = s .proto;
-      «processing_required» = s .«processing_required»;
-      «response_required» = s .«response_required»;
-      «responding_to_fn» = s .«responding_to_fn»;
-      readonly = s .readonly;
-      «frame_start» = s .«frame_start»;
-      func = s .func;
-      reg = s .reg;
-      count = n;
-      error = s .error;
-      «response_len» = s .«response_len»;
-    }
+    stateOf (s .«unit_id») (s .proto) (s .«processing_required») (s .«response_required») (s .«responding_to_fn») (s .readonly)
+    (s .«frame_start») (s .func) (s .reg) n (s .error) (s .«response_len»)
 
 -- to be processed, read-only or not, from a first cell on
 abbrev pub toProcess : Bool → ℕ → ModbusFrame → ModbusFrame
 toProcess b n s =
-    record {
-      «unit_id» = s .«unit_id»;
-      proto = s .proto;
-      «processing_required» = true;
-      «response_required» = s .«response_required»;
-      «responding_to_fn» = s .«responding_to_fn»;
-      readonly = b;
-      «frame_start» = s .«frame_start»;
-      func = s .func;
-      reg = n;
-      count = s .count;
-      error = s .error;
-      «response_len» = s .«response_len»;
-    }
+    stateOf (s .«unit_id») (s .proto) true (s .«response_required») (s .«responding_to_fn») b
+    (s .«frame_start») (s .func) n (s .count) (s .error) (s .«response_len»)
 
 -- ---- what a call leaves: 0 or the number of a refusal, the state, the lent slice of the response
 

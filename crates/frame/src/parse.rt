@@ -6,6 +6,7 @@ use crate::ModbusFunction;
 use crate::function_of;
 use incoming::check_frame_crc;
 use incoming::frame_start;
+use incoming::overflows;
 use modbus::DoneAnswer;
 use modbus::ErrorKind;
 use modbus::ModbusProto;
@@ -18,14 +19,15 @@ ghost use mathlib.Core.List.{List};
 ghost use Prim.Native.Nat.{ℕ, _+_, _<_, _≤_};
 ghost use lib.ListN.{length};
 ghost use Rattle.modbus.specs.Step.{choose};
-ghost use Rattle.frame.specs.State.{fnOf, well, leftPaper, ended};
-ghost use Rattle.frame.specs.Parse.{Headed, copiesHeader, unsupported, answered, byteCount, readAccepted, readParsed, oneParsed};
-ghost use Rattle.frame.specs.Parse.{manyAccepted, countable?, manyParsed, requested, named, forUs, addressed, parsed};
+ghost use Rattle.incoming.specs.Envelope.{countable?};
+ghost use Rattle.frame.specs.State.{portedOf, well, leftPaper, ended};
+ghost use Rattle.frame.specs.Parse.{Headed, copiesHeader, unsupported, answered, readAccepted, readParsed, oneParsed};
+ghost use Rattle.frame.specs.Parse.{manyAccepted, manyParsed, requested, functionNamed, forUs, addressed, frameParsed};
 
 impl ModbusFrame {
     // The header is copied to the response before later faults.
     pub fn parse(self, buf: &[u8], list: &[u8], response: &mut [u8]) -> Left
-        ensures { λ r. ⌜ leftPaper r (now (response .exit)) ≡ parsed self (now (buf .entry)) (now (list .entry)) (now (response .entry)) ⌝ }
+        ensures { λ r. ⌜ leftPaper r (now (response .exit)) ≡ frameParsed self (now (buf .entry)) (now (list .entry)) (now (response .entry)) ⌝ }
     {
         if response.len() < self.response_len {
             return self.refused(ErrorKind::OOB);
@@ -80,7 +82,7 @@ impl ModbusFrame {
     // From the function on nothing is added to the response, whatever it holds.
     fn name(self, broadcast: bool, buf: &[u8]) -> Left
         requires { ⌜ self .«frame_start» < length (now buf) ⌝ }
-        ensures { λ r. ⌜ ((out : List ℕ) → leftPaper r out ≡ named broadcast self (now (buf .entry)) out) ⌝ }
+        ensures { λ r. ⌜ ((out : List ℕ) → leftPaper r out ≡ functionNamed broadcast self (now (buf .entry)) out) ⌝ }
     {
         let start = self.frame_start;
         if buf.len() - start < 2 {
@@ -108,7 +110,7 @@ impl ModbusFrame {
 
     fn request(self, f: ModbusFunction, broadcast: bool, given: ModbusFrame, buf: &[u8]) -> Left
         requires { ⌜ self .«frame_start» < length (now buf) ⌝ }
-        ensures { λ r. ⌜ ((out : List ℕ) → leftPaper r out ≡ ended (requested (fnOf f) broadcast given self (now (buf .entry)) out)) ⌝ }
+        ensures { λ r. ⌜ ((out : List ℕ) → leftPaper r out ≡ ended (requested (portedOf f) broadcast given self (now (buf .entry)) out)) ⌝ }
     {
         match f {
             ModbusFunction::GetCoils => self.request_read(2000, broadcast, buf),
@@ -200,19 +202,19 @@ impl ModbusFrame {
         if buf.len() - start < 7 {
             return self.refused(ErrorKind::FrameBroken);
         }
-        let bytes = buf[start + 6];
+        let len = 7 + buf[start + 6] as usize;
         let proto = self.proto;
-        if overflows(proto, bytes) {
+        if overflows(proto, len) {
             return given.refused(ErrorKind::FrameBroken);
         }
-        match check_frame_crc(proto, buf, start, checked_len(bytes)) {
+        match check_frame_crc(proto, buf, start, len) {
             DoneAnswer::Refused(k) => self.refused(k),
-            DoneAnswer::Done => self.accept_many(most, broadcast, bytes, buf),
+            DoneAnswer::Done => self.accept_many(most, broadcast, buf),
         }
     }
 
-    fn accept_many(self, most: u16, broadcast: bool, bytes: u8, buf: &[u8]) -> Left
-        requires { ⌜ (self .«frame_start» + 7 ≤ length (now buf)) × (bytes ≡ byteCount self (now buf)) ⌝ }
+    fn accept_many(self, most: u16, broadcast: bool, buf: &[u8]) -> Left
+        requires { ⌜ self .«frame_start» + 7 ≤ length (now buf) ⌝ }
         ensures { λ r. ⌜ ((out : List ℕ) → leftPaper r out ≡ ended (manyAccepted most broadcast self (now (buf .entry)) out)) ⌝ }
     {
         let start = self.frame_start;
@@ -221,7 +223,7 @@ impl ModbusFrame {
         if most < s.count {
             return s.with_error(3).done();
         }
-        if 246 < bytes {
+        if 246 < buf[start + 6] {
             return s.with_error(3).done();
         }
         s.processing_required = true;
@@ -243,25 +245,4 @@ fn copies_header(broadcast: bool, proto: ModbusProto) -> bool
         ModbusProto::Ascii => false,
         ModbusProto::TcpUdp => true,
     }
-}
-
-// Whether the crate's sum of 7 and the byte count, by which a serial frame's check is taken, overflows a byte.
-fn overflows(proto: ModbusProto, bytes: u8) -> bool
-    ensures { λ r. ⌜ r ≡ choose (countable? proto bytes) false true ⌝ }
-{
-    match proto {
-        ModbusProto::Rtu => bytes > 248,
-        ModbusProto::Ascii => bytes > 248,
-        ModbusProto::TcpUdp => false,
-    }
-}
-
-// How many bytes the check is over; where they do not fit a byte the frame is TCP, and there is none.
-fn checked_len(bytes: u8) -> u8
-    ensures { λ r. ⌜ (bytes ≤ 248 → r ≡ 7 + bytes) ⌝ }
-{
-    if bytes > 248 {
-        return 255;
-    }
-    7 + bytes
 }

@@ -1,2 +1,2 @@
-pub mod RequestLaws
+pub mod EnvelopeLaws
 pub mod Unique

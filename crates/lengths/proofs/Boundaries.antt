@@ -12,7 +12,7 @@ use Rattle.modbus.specs.Paper.{told}
 use Rattle.modbus.specs.Hex.{digit, undigit, text}
 use Rattle.modbus.specs.declared.ModbusProto.{ModbusProto}
 use Rattle.modbus.specs.declared.ModbusProto.the-variants.{Rtu, Ascii, TcpUdp}
-use Rattle.ascii.specs.Reading.{onward, orRefused, second, pair, placed, decode, parsed}
+use Rattle.ascii.specs.Reading.{onward, orRefused, second, pair, placed, decode, textParsed}
 use Rattle.lengths.specs.Guess.{requestBody, responseBody, inByte, serial, guess}
 
 -- what is said of a body's first bytes, as they stand on the line
@@ -58,5 +58,5 @@ pub boundaries :
     ∷ [])
     (replicate 10 ((0, 255), (23, 0))
     ++ ((0, 8), (0, 17)) ∷ ((21, 0), (23, 0)) ∷ ((23, 0), (0, 5)) ∷ ((23, 0), (0, 11)) ∷ [])
-unfolding Dec·and Dec·not decLe ℕ-discrete _>>=_ _>>_ need choose _or?_ digit undigit text onward orRefused second pair placed decode parsed requestBody responseBody inByte serial guess
+unfolding Dec·and Dec·not decLe ℕ-discrete _>>=_ _>>_ need choose _or?_ digit undigit text onward orRefused second pair placed decode textParsed requestBody responseBody inByte serial guess
 boundaries = refl

@@ -1,4 +1,5 @@
--- The guess is right: given a whole frame, it says the frame's length, for every request, every reply and every exception.
+-- The guess is right: given a whole frame, it says the frame's length, for every request of the crate's functions, every
+-- reply to one and every exception.
 -- Assumes nothing.
 use mathlib.Core.Logic.{_⊎_, inl, inr, ⊎-elim}
 use mathlib.Core.Path.{_≡_, refl, sym, ap, _∙_}
@@ -11,7 +12,7 @@ use Rattle.modbus.specs.Step.{Step, go, _>>=_}
 use Rattle.modbus.specs.Bytes.{Bytes}
 use Rattle.modbus.specs.Check.{lrc}
 use Rattle.modbus.specs.Table.{Kind, bit, word, Tab, coils, discretes, holdings, inputs, kindOf}
-use Rattle.modbus.specs.Request.{Ask, read, write, writes, code, reads, one, many, Pads, pdu, answer, exception}
+use Rattle.modbus.specs.Request.{Ask, code, reads, one, many, Pads, pdu, answer, exception}
 use Rattle.modbus.specs.Frame.{wrap, tagLength, around}
 use Rattle.modbus.specs.declared.ErrorKind.{ErrorKind}
 use Rattle.modbus.specs.declared.ModbusProto.{ModbusProto}
@@ -23,6 +24,7 @@ use Rattle.modbus.proofs.AnswerLaws.{length-shown}
 use Rattle.modbus.proofs.FrameLaws.{length-wrap}
 use Rattle.ascii.proofs.RoundTrip.{round-trip}
 use Rattle.lengths.specs.Guess.{Many, Reads, requestBody, responseBody, inByte, serial, guess}
+use Rattle.lengths.specs.PortedAsk.{PortedAsk, portedRead, portedWrite, portedWrites}
 use Rattle.lengths.proofs.GuessLaws.{request-many, request-other, response-exception, response-read, response-write, byte-fits, serial-told, tcp-told}
 
 -- the body's own bytes tell its length, whatever stands after them
@@ -45,25 +47,25 @@ many-code : (k : Kind) → Many (code (many k))
 many-code bit = inl refl
 many-code word = inr refl
 
-pub request-tells : (u : ℕ) (a : Ask) (pad : List ℕ) → Pads a pad → Tells requestBody (u ∷ pdu a pad)
-request-tells u (read t s n) pad f =
+pub request-tells : (u : ℕ) {a : Ask} → PortedAsk a → (pad : List ℕ) → Pads a pad → Tells requestBody (u ∷ pdu a pad)
+request-tells u (portedRead t s n) pad f =
     let h = reads-code t in (omega arith, λ more. request-other _ (λ e. omega arith) (λ e. omega arith))
-request-tells u (write k s v) pad f =
+request-tells u (portedWrite k s v) pad f =
     let h : code (one k) ≤ 6 = ⊎-elim (λ e. omega arith) (λ e. omega arith) (one-code k) in
     (omega arith, λ more. request-other _ (λ e. omega arith) (λ e. omega arith))
-request-tells u (writes k s vs) pad f = (
+request-tells u (portedWrites k s vs) pad f = (
   omega arith,
   λ more. request-many _ (many-code k) (omega arith) ∙ ap go (omega (arith, length-cargo k vs pad f)),
 )
 
-pub reply-tells : (u : ℕ) (a : Ask) (vs : List ℕ) → Tells responseBody (u ∷ answer a vs)
-reply-tells u (read t s n) vs = (
+pub reply-tells : (u : ℕ) {a : Ask} → PortedAsk a → (vs : List ℕ) → Tells responseBody (u ∷ answer a vs)
+reply-tells u (portedRead t s n) vs = (
   omega arith,
   λ more. response-read _ (reads-code t) (omega arith) ∙ ap go (omega (arith, length-shown (kindOf t) vs)),
 )
-reply-tells u (write k s v) vs =
+reply-tells u (portedWrite k s v) vs =
     (omega arith, λ more. response-write _ (⊎-elim inl (λ e. inr (inl e)) (one-code k)) (omega arith))
-reply-tells u (writes k s ws) vs = (omega arith, λ more. response-write _ (inr (inr (many-code k))) (omega arith))
+reply-tells u (portedWrites k s ws) vs = (omega arith, λ more. response-write _ (inr (inr (many-code k))) (omega arith))
 
 pub exception-tells : (u fn c : ℕ) → Tells responseBody (u ∷ exception fn c)
 exception-tells u fn c = (omega arith, λ more. response-exception _ (omega arith))
@@ -103,25 +105,27 @@ module _ (body : List ℕ → Step ErrorKind ℕ) (p : ModbusProto) (tag b : Lis
   unfolding guess
   whole h = by p e ∙ ap inByte (sym (length-wrap p tag b e))
     where
-      checked : (q : ModbusProto) (more : List ℕ) → serial body q (b ++ more) ≡ inByte (around q (length b))
-      checked q more = serial-told body (b ++ more) q _ (simp length-append (omega arith)) (t .1 more)
+      behind : (q : ModbusProto) (more : List ℕ) → serial body q (b ++ more) ≡ inByte (around q (length b))
+      behind q more = serial-told body (b ++ more) q _ (simp length-append (omega arith)) (t .1 more)
 
       by : (q : ModbusProto) → length tag ≡ tagLength q → guess body q (wrap q tag b) ≡ inByte (around q (length b))
-      by Rtu _ = checked Rtu _
-      by Ascii _ = ascii-whole body b y h ∙ checked Ascii _
+      by Rtu _ = behind Rtu _
+      by Ascii _ = ascii-whole body b y h ∙ behind Ascii _
       by TcpUdp f = tcp-whole body tag b f
 
   guessed : length (wrap p tag b) ≤ 255 → guess body p (wrap p tag b) ≡ go (length (wrap p tag b))
   guessed h = whole (omega (arith, length-wrap p tag b e, around-more p (length b))) ∙ byte-fits _ h
 
 module _ (p : ModbusProto) (tag : List ℕ) (e : length tag ≡ tagLength p) (u : ℕ) where
-  pub request-length : (a : Ask) (pad : List ℕ) → Pads a pad → Bytes (u ∷ pdu a pad) → length (wrap p tag (u ∷ pdu a pad)) ≤ 255
+  pub request-length : {a : Ask} → PortedAsk a → (pad : List ℕ) → Pads a pad → Bytes (u ∷ pdu a pad)
+      → length (wrap p tag (u ∷ pdu a pad)) ≤ 255
       → guess requestBody p (wrap p tag (u ∷ pdu a pad)) ≡ go (length (wrap p tag (u ∷ pdu a pad)))
-  request-length a pad f y h = guessed _ p tag _ (request-tells u a pad f) y e h
+  request-length k pad f y h = guessed _ p tag _ (request-tells u k pad f) y e h
 
-  pub reply-length : (a : Ask) (vs : List ℕ) → Bytes (u ∷ answer a vs) → length (wrap p tag (u ∷ answer a vs)) ≤ 255
+  pub reply-length : {a : Ask} → PortedAsk a → (vs : List ℕ) → Bytes (u ∷ answer a vs)
+      → length (wrap p tag (u ∷ answer a vs)) ≤ 255
       → guess responseBody p (wrap p tag (u ∷ answer a vs)) ≡ go (length (wrap p tag (u ∷ answer a vs)))
-  reply-length a vs y h = guessed _ p tag _ (reply-tells u a vs) y e h
+  reply-length k vs y h = guessed _ p tag _ (reply-tells u k vs) y e h
 
   -- an exception's frame always fits
   pub exception-length : (fn c : ℕ) → Bytes (u ∷ exception fn c)

@@ -19,7 +19,7 @@ use Rattle.modbus.specs.declared.ModbusProto.{ModbusProto}
 use Rattle.modbus.specs.declared.ModbusProto.the-variants.{Ascii, TcpUdp}
 use Rattle.modbus.proofs.PaperLaws.{told-same}
 use Rattle.modbus.proofs.StepLaws.{pass, fail, follow, halt, pick-yes, pick-no, picked, needed}
-use Rattle.ascii.specs.Reading.{Ending, finished, refused, Decoded, counted, parsed, parsedInto}
+use Rattle.ascii.specs.Reading.{Ending, finished, refused, Decoded, counted, textParsed, parsedInto}
 use Rattle.lengths.specs.Guess.{Many, Reads, Writes, requestBody, responseBody, inByte, serial, guess}
 use Rattle.lengths.specs.Side.{bodyOf}
 use Rattle.lengths.specs.declared.Side.{Side}
@@ -126,7 +126,7 @@ sets-front l v n e h = ap (take n) (sets-eq v l 0 (omega arith)) ∙ take-at v _
 
 module _ (l buf out : List ℕ) (m : ℕ) where
   abbrev read : Decoded
-  read = parsed l m (length buf) 0
+  read = textParsed l m (length buf) 0
 
   pub parsed-front : (n : ℕ) → ((0, n), out) ≡ parsedInto l m buf 0 → n ≤ length buf
       → (counted read (read .ending) ≡ go n) × (take n out ≡ read .bytes)

@@ -14,7 +14,7 @@ use Rattle.modbus.specs.declared.ErrorKind.{ErrorKind}
 use Rattle.modbus.specs.declared.ErrorKind.the-variants.{OOB, FrameBroken}
 use Rattle.modbus.specs.declared.ModbusProto.{ModbusProto}
 use Rattle.modbus.specs.declared.ModbusProto.the-variants.{Rtu, Ascii, TcpUdp}
-use Rattle.ascii.specs.Reading.{counted, parsed}
+use Rattle.ascii.specs.Reading.{counted, textParsed}
 
 abbrev pub Many : ℕ → Type 0
 Many fn = (fn ≡ 15) ⊎ (fn ≡ 16)
@@ -64,7 +64,7 @@ serial body proto b = do
 unfoldable pub guess : (List ℕ → Step ErrorKind ℕ) → ModbusProto → List ℕ → Step ErrorKind ℕ
 guess body Rtu f = serial body Rtu f
 guess body Ascii f =
-    let d = parsed f (length f) 256 0 in
+    let d = textParsed f (length f) 256 0 in
     counted d (d .ending) >>= (λ n. serial body Ascii (d .bytes))
 guess body TcpUdp f = do
   need (6 ≤? length f) OOB

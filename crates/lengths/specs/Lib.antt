@@ -1,2 +1,3 @@
 pub mod Guess
 pub mod Side
+pub mod PortedAsk

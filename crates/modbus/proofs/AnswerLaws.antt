@@ -7,7 +7,7 @@ use native.Mathlib.Omega.{arith}
 use lib.ListN.{length, replicate, length-replicate}
 use Rattle.modbus.specs.Bytes.{All, Bytes}
 use Rattle.modbus.specs.Table.{Kind, bit, word, Tab, coils, discretes, holdings, inputs, kindOf, Fits, Tables, part}
-use Rattle.modbus.specs.Request.{code, reads, Ask, read, write, writes, mostRead, Permitted, octets, Fills, Encodes, shown, apply, found, answer}
+use Rattle.modbus.specs.Request.{code, reads, Ask, read, write, writes, mostRead, Permitted, octets, Fills, Encodes, shown, apply, seen, found, answer}
 use Rattle.modbus.proofs.StorageLaws.{length-part, part-all}
 use Rattle.modbus.proofs.CargoLaws.{length-cargo, bytes-cargo}
 
@@ -55,7 +55,7 @@ read-fits t vs l h p =
     record { bytes = (omega arith, (omega arith, bytes-shown (kindOf t) vs p)); low = omega arith; high = omega arith }
 
 pub answer-fits : (a : Ask) (t : Tables) (l : List ℕ) → Proper t → Permitted a → Encodes a l → Bytes l
-    → Fitting (answer a (found a (apply a t)))
+    → Fitting (answer a (found a (seen (apply a t))))
 answer-fits (read tab s n) t l proper p e y =
     let k = length-part (t tab) s n in
     read-fits tab (part (t tab) s n) (omega (arith, p)) (rw k (p .1)) (part-all (t tab) (Fits (kindOf tab)) s n (proper tab))

@@ -12,7 +12,7 @@ use lib.Arith.{digits-div, digits-mod}
 use Rattle.modbus.specs.Bytes.{All, Bytes, twos, pack}
 use Rattle.modbus.specs.Table.{Kind, bit, word, Fits, part}
 use Rattle.modbus.specs.Request.{cargo, octets, Fills}
-use Rattle.modbus.specs.Storage.{coilAt, registerAt, layout, values}
+use Rattle.modbus.specs.Storage.{coilAt, registerAt, datum, values}
 use Rattle.modbus.proofs.StorageLaws.{length-part, getD-part, part-all}
 use Rattle.modbus.proofs.BytesLaws.{all-append, word-at}
 use Rattle.modbus.proofs.Views.{Eights, none, eight, eights?}
@@ -180,7 +180,7 @@ filled : (vs pad : List ℕ) → Fills bit vs pad → Eights (vs ++ pad)
 filled vs pad f = eights? (vs ++ pad) (octets bit (length vs)) (length-append vs pad ∙ f .1)
 
 cell-cargo : (k : Kind) (vs pad : List ℕ) → All (Fits k) vs → Fills k vs pad → (i : ℕ) → i < length vs
-    → layout k .cell (cargo k vs pad) i ≡ getD vs i 0
+    → datum k (cargo k vs pad) i ≡ getD vs i 0
 cell-cargo bit vs pad p f i h =
     coil-pack (filled vs pad f) (all-append (Fits bit) vs pad p (f .0)) i ∙ List·getD-append vs pad 0 i h
 cell-cargo word vs pad p f i h = register-twos vs i
@@ -188,11 +188,11 @@ cell-cargo word vs pad p f i h = register-twos vs i
 -- and values are read back from their encoding, whatever the pad bits
 pub values-back : (k : Kind) (vs pad : List ℕ) → All (Fits k) vs → Fills k vs pad → values k (length vs) (cargo k vs pad) ≡ vs
 values-back k vs pad p f =
-    let n = length-part (layout k .cell (cargo k vs pad)) 0 (length vs) in
+    let n = length-part (datum k (cargo k vs pad)) 0 (length vs) in
     ext-getD 0 _ vs n
     (λ i h.
     let l : i < length vs = omega arith in
-    getD-part (layout k .cell (cargo k vs pad)) 0 (length vs) i 0 l ∙ rw zero-add (cell-cargo k vs pad p f i l))
+    getD-part (datum k (cargo k vs pad)) 0 (length vs) i 0 l ∙ rw zero-add (cell-cargo k vs pad p f i l))
 
 pub length-cargo : (k : Kind) (vs pad : List ℕ) → Fills k vs pad → length (cargo k vs pad) ≡ octets k (length vs)
 length-cargo bit vs pad f = omega (arith, length-pack (filled vs pad f), length-append vs pad, f .1)

@@ -13,7 +13,7 @@ use Rattle.modbus.specs.Step.{Step, stop, go, _>>_, need, _≤?_, _≟_,
 use Rattle.modbus.specs.Bytes.{Bytes, two, wordAt}
 use Rattle.modbus.specs.Check.{lrc}
 use Rattle.modbus.specs.Hex.{text, untext}
-use Rattle.modbus.specs.Frame.{line, wrap, tagLength, around, Framed}
+use Rattle.modbus.specs.Frame.{line, wrap, tagLength, around, least, most, Framed}
 use Rattle.modbus.specs.Decode.{Message, frameBroken, frameCheck, orBroken, crcBytes, unwrap}
 use Rattle.modbus.specs.declared.ErrorKind.{ErrorKind}
 use Rattle.modbus.specs.declared.ModbusProto.{ModbusProto}
@@ -42,22 +42,25 @@ cut f l m n e h =
 joined : (n : ℕ) (f m : List ℕ) → drop n f ≡ m → f ≡ take n f ++ m
 joined n f m e = sym (take-append-drop n f) ∙ ap (λ l. take n f ++ l) e
 
+-- a frame without a tag: its body is the first k of the bytes l, and the rest is their check
+untagged : (p : ModbusProto) (check : List ℕ → List ℕ) (l : List ℕ) (k : ℕ) (f : List ℕ) (m : Message)
+    → Bytes l → least p ≤ length (take k l) → length (take k l) ≤ most p → 0 ≡ tagLength p
+    → (l ≡ take k l ++ check (take k l) → f ≡ wrap p [] (take k l))
+    → (need (same? (drop k l) (check (take k l))) frameCheck >> go (record { tag = []; body = take k l })) ≡ go m
+    → Framed p (m .tag) (m .body) f
+untagged p check l k f m y low high none whole e =
+    needed _ _ _ e λ q e₁.
+    let r : record { tag = []; body = take k l } ≡ m = cc in
+    subst (λ n. Framed p (n .tag) (n .body) f) r
+    (record { bytes = all-take _ k l y; low = low; high = high; tagged = none; whole = whole (joined k l _ q) })
+
 -- ---- RTU
 
 rtu-sound : (f : List ℕ) (m : Message) → Bytes f → unwrap Rtu f ≡ go m → Framed Rtu (m .tag) (m .body) f
 unfolding unwrap
 rtu-sound f m y e =
     needed _ _ _ e λ p e₁.
-    needed _ _ _ e₁ λ q e₂.
-    let r : record { tag = []; body = take (length f - 2) f } ≡ m = cc in
-    subst (λ n. Framed Rtu (n .tag) (n .body) f) r
-    (record {
-      bytes = all-take _ (length f - 2) f y;
-      low = simp length-take (omega arith);
-      high = simp length-take (omega arith);
-      tagged = refl;
-      whole = joined (length f - 2) f _ q;
-    })
+    untagged Rtu crcBytes f (length f - 2) f m y (simp length-take (omega arith)) (simp length-take (omega arith)) refl (λ q. q) e₁
 
 rtu-complete : (tag body f : List ℕ) → Framed Rtu tag body f → unwrap Rtu f ≡ go (record { tag = tag; body = body })
 unfolding unwrap
@@ -121,16 +124,8 @@ ascii-sound f m e = by (ascii-shape f)
     by : Lined f ⊎ (unwrap Ascii f ≡ stop frameBroken) → Framed Ascii (m .tag) (m .body) f
     by (inr b) = let z : _≡_ {A = ℕ} 0 1 = cc in absurd (omega arith)
     by (inl (l, y, low, high, w)) =
-        needed _ _ _ (sym (ascii-check f l y low high w) ∙ e) λ p q.
-        let r : record { tag = []; body = take (length l - 1) l } ≡ m = cc in
-        subst (λ n. Framed Ascii (n .tag) (n .body) f) r
-        (record {
-          bytes = all-take _ (length l - 1) l y;
-          low = simp length-take (omega arith);
-          high = simp length-take (omega arith);
-          tagged = refl;
-          whole = w ∙ ap line (joined (length l - 1) l _ p);
-        })
+        untagged Ascii (λ b. lrc b ∷ []) l (length l - 1) f m y (simp length-take (omega arith)) (simp length-take (omega arith)) refl
+        (λ q. w ∙ ap line q) (sym (ascii-check f l y low high w) ∙ e)
 
 ascii-complete : (tag body f : List ℕ) → Framed Ascii tag body f → unwrap Ascii f ≡ go (record { tag = tag; body = body })
 ascii-complete (a ∷ t) body f h = absurd (omega (arith, h .tagged))

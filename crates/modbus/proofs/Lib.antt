@@ -12,6 +12,7 @@ pub mod CargoLaws
 pub mod RequestLaws
 pub mod AnswerLaws
 pub mod FrameLaws
+pub mod FindLaws
 pub mod DriveLaws
 pub mod Cases
 pub mod Bounds

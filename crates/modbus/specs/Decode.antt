@@ -32,15 +32,15 @@ numberOf m = getD (m .body) 1 0
 pub data Silent : Type 0 where
   readIgnored foreign frameBroken frameCheck wrongLength badFunction noRoom badSetup : Silent
 
-abbrev pub number : Silent → ℕ
-number readIgnored = 3
-number foreign = 4
-number frameBroken = 5
-number frameCheck = 6
-number wrongLength = 7
-number badFunction = 8
-number noRoom = 9
-number badSetup = 10
+abbrev pub outcomeOf : Silent → ℕ
+outcomeOf readIgnored = 3
+outcomeOf foreign = 4
+outcomeOf frameBroken = 5
+outcomeOf frameCheck = 6
+outcomeOf wrongLength = 7
+outcomeOf badFunction = 8
+outcomeOf noRoom = 9
+outcomeOf badSetup = 10
 
 -- ---- shape, then check
 

@@ -5,11 +5,11 @@ use mathlib.Core.List.{List, [], _∷_, _++_}
 use Prim.Native.Nat.{ℕ, _+_}
 use Rattle.modbus.specs.Step.{Step, stop, go, _>>=_, _>>_, need, choose, _≤?_, _≟_, _and?_, _or?_, not?}
 use Rattle.modbus.specs.Table.{Range, Tables}
-use Rattle.modbus.specs.Request.{Fn, code, functions, Ask, reading, writing, apply, found, answer, exception}
+use Rattle.modbus.specs.Request.{Fn, code, offered, Ask, reading, writing, apply, seen, found, answer, exception}
 use Rattle.modbus.specs.Frame.{wrap}
 use Rattle.modbus.specs.Setup.{Setup, proto, valid?, roomy?, Within, within?}
 use Rattle.modbus.specs.Unit.{broadcast?, ours?}
-use Rattle.modbus.specs.Decode.{Message, unitOf, numberOf, Silent, readIgnored, foreign, wrongLength, badFunction, noRoom, badSetup, number, unwrap, isRead?, lengthy?, valued?, asked}
+use Rattle.modbus.specs.Decode.{Message, unitOf, numberOf, Silent, readIgnored, foreign, wrongLength, badFunction, noRoom, badSetup, outcomeOf, unwrap, isRead?, lengthy?, valued?, asked}
 
 -- a fault is silent, or comes with a message and an exception code
 pub data Fault : Type 0 where
@@ -20,10 +20,10 @@ unfoldable pub quietly : {A : Type 0} → Step Silent A → Step Fault A
 quietly (stop x) = stop (quiet x)
 quietly (go a) = go a
 
--- the function of a number, or the fault
-unfoldable pub find : {F : Type 0} → F → ℕ → List Fn → Step F Fn
-find x n [] = stop x
-find x n (fn ∷ l) = choose (n ≟ code fn) (go fn) (find x n l)
+-- the function of a number among some, or the fault
+unfoldable pub find : {F A : Type 0} → (A → ℕ) → F → ℕ → List A → Step F A
+find code x n [] = stop x
+find code x n (fn ∷ l) = choose (n ≟ code fn) (go fn) (find code x n l)
 
 -- all the cells it names
 abbrev pub AllWithin : Setup → List Range → Type 0
@@ -56,7 +56,7 @@ abbrev pub fromUnit : Setup → Message → Step Fault (Message × Ask)
 fromUnit s m = do
   need (broadcast? s (unitOf m) or? ours? s (unitOf m)) (quiet foreign)
   need (numberOf m ≤? 127) (quiet badFunction)
-  fn ← find (coded m 1) (numberOf m) functions
+  fn ← find code (coded m 1) (numberOf m) (offered (proto s))
   need (not? (broadcast? s (unitOf m) and? isRead? fn)) (quiet readIgnored)
   fromFunction s m fn
 
@@ -83,11 +83,11 @@ replying s m o x pdu t = record { outcome = o; exceptionCode = x; reply = wrap (
 
 -- only outcomes 0 and 1 may change cells; a broadcast is never answered; the answer is read off the tables after the write
 unfoldable pub settle : Setup → Tables → Step Fault (Message × Ask) → Result
-settle s t (stop (quiet o)) = silently (number o) 0 t
+settle s t (stop (quiet o)) = silently (outcomeOf o) 0 t
 settle s t (stop (coded m x)) =
     choose (broadcast? s (unitOf m)) (silently 3 x t) (replying s m 2 x (exception (numberOf m) x) t)
 settle s t (go (m, a)) =
-    choose (broadcast? s (unitOf m)) (silently 1 0 (apply a t)) (replying s m 0 0 (answer a (found a (apply a t))) (apply a t))
+    choose (broadcast? s (unitOf m)) (silently 1 0 (apply a t)) (replying s m 0 0 (answer a (found a (seen (apply a t)))) (apply a t))
 
 unfoldable pub drive : Setup → Tables → List ℕ → Result
 drive s t f = settle s t (judge s f)

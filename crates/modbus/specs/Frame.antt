@@ -22,10 +22,22 @@ wrap Rtu tag body = body ++ (crc body % 256 ∷ crc body / 256 ∷ [])
 wrap Ascii tag body = line (body ++ (lrc body ∷ []))
 wrap TcpUdp tag body = tag ++ (0 ∷ 0 ∷ two (length body)) ++ body
 
+-- the tag of a transaction number's two bytes
+abbrev pub tagOf : ModbusProto → ℕ → ℕ → List ℕ
+tagOf Rtu high low = []
+tagOf Ascii high low = []
+tagOf TcpUdp high low = high ∷ low ∷ []
+
 abbrev pub tagLength : ModbusProto → ℕ
 tagLength Rtu = 0
 tagLength Ascii = 0
 tagLength TcpUdp = 2
+
+-- where a body starts: in a TCP frame after its header, else in front
+abbrev pub startOf : ModbusProto → ℕ
+startOf Rtu = 0
+startOf Ascii = 0
+startOf TcpUdp = 6
 
 -- how long the frame around n bytes is
 abbrev pub around : ModbusProto → ℕ → ℕ

@@ -4,6 +4,7 @@ pub mod Paper
 pub mod Check
 pub mod Hex
 pub mod Table
+pub mod Ported
 pub mod Request
 pub mod Storage
 pub mod Frame

@@ -6,9 +6,10 @@ use mathlib.Core.List.{List, [], _∷_, _++_}
 use Prim.Native.Nat.{ℕ, _+_, _-_, _*_, _/_, _≤_}
 use lib.ListN.{length, replicate}
 use Rattle.modbus.specs.Bytes.{All, two, twos, pack}
+use Rattle.modbus.specs.declared.ModbusProto.{ModbusProto}
 use Rattle.modbus.specs.Table.{Kind, bit, word, Tab, coils, discretes, holdings, inputs, kindOf, target, Fits, Tables, part, Range, assign}
 
--- the functions served, and their numbers
+-- the functions of the requests, and their numbers
 pub data Fn : Type 0 where
   reads : Tab → Fn
   one many : Kind → Fn
@@ -23,8 +24,9 @@ code (one word) = 6
 code (many bit) = 15
 code (many word) = 16
 
-abbrev pub functions : List Fn
-functions = reads coils ∷ reads discretes ∷ reads holdings ∷ reads inputs ∷ one bit ∷ one word ∷ many bit ∷ many word ∷ []
+-- those that a server offers on a transport (document 01, "Functions served")
+abbrev pub offered : ModbusProto → List Fn
+offered p = reads coils ∷ reads discretes ∷ reads holdings ∷ reads inputs ∷ one bit ∷ one word ∷ many bit ∷ many word ∷ []
 
 pub data Ask : Type 0 where
   read : Tab → ℕ → ℕ → Ask  -- table, first cell, how many
@@ -101,24 +103,31 @@ Encodes a l = (pad : List ℕ) × Pads a pad × (l ≡ pdu a pad)
 
 -- ---- effect and answer
 
--- the values it writes
-abbrev pub given : Ask → List ℕ
-given (read t s n) = []
-given (write k a v) = v ∷ []
-given (writes k s vs) = vs
+-- the values it writes, where the tables before it are T
+abbrev pub given : Ask → Tables → List ℕ
+given (read t s n) T = []
+given (write k a v) T = v ∷ []
+given (writes k s vs) T = vs
 
 abbrev pub assigned : List Range → List ℕ → Tables → Tables
 assigned [] vs T = T
 assigned (r ∷ l) vs T = assign r vs T
 
 abbrev pub apply : Ask → Tables → Tables
-apply a T = assigned (writing a) (given a) T
+apply a T = assigned (writing a) (given a T) T
+
+-- what an answer is read off
+pub record Seen : Type 0 where
+  pub tables : Tables
+
+abbrev pub seen : Tables → Seen
+seen T = record { tables = T }
 
 -- the values of the cells it reads
-abbrev pub found : Ask → Tables → List ℕ
-found (read t s n) T = part (T t) s n
-found (write k a v) T = []
-found (writes k s vs) T = []
+abbrev pub found : Ask → Seen → List ℕ
+found (read t s n) w = part (w .tables t) s n
+found (write k a v) w = []
+found (writes k s vs) w = []
 
 -- values as a reply shows them, pad bits zero
 abbrev pub shown : Kind → List ℕ → List ℕ

@@ -6,7 +6,7 @@ use Prim.Native.Nat.{ℕ, suc, _+_, _*_, _/_, _%_, _^_, _≤_}
 use lib.ListN.{length, getD, set}
 use Rattle.modbus.specs.Step.{choose, _≤?_, _and?_}
 use Rattle.modbus.specs.Bytes.{wordAt}
-use Rattle.modbus.specs.Table.{Kind, bit, word, part}
+use Rattle.modbus.specs.Table.{Kind, bit, word, Tab, coils, discretes, holdings, inputs, part}
 use Rattle.modbus.specs.Request.{octets}
 
 -- ---- one cell
@@ -59,10 +59,18 @@ sound? S l cells = (cells ≤? 65536) and? (S .bytes cells ≤? length l)
 unfoldable pub size : Storage → List ℕ → ℕ → ℕ
 size S l cells = choose (sound? S l cells) cells 0
 
--- the values that data bytes hold, which are laid out as a table is
-abbrev pub layout : Kind → Storage
-layout bit = packed
-layout word = registers
+-- how each table is kept
+abbrev pub storage : Tab → Storage
+storage coils = packed
+storage discretes = packed
+storage holdings = registers
+storage inputs = registers
+
+-- ---- data bytes on the line (APP 6.11: coils eight to a byte, the first lowest; APP 6.12: registers high byte first), and the values they hold
+
+abbrev pub datum : Kind → List ℕ → ℕ → ℕ
+datum bit = coilAt
+datum word = registerAt
 
 abbrev pub values : Kind → ℕ → List ℕ → List ℕ
-values k n d = part (layout k .cell d) 0 n
+values k n d = part (datum k d) 0 n

@@ -5,7 +5,7 @@
 use mathlib.Core.List.{List, [], _∷_, _++_}
 use Prim.Native.Nat.{ℕ, _+_, _≤_}
 use lib.ListN.{length, take, drop}
-use Rattle.modbus.specs.Step.{Step, stop, go, _>>=_, _>>_, need, _≤?_}
+use Rattle.modbus.specs.Step.{Step, stop, go, _>>=_, _>>_, need, _≤?_, _and?_}
 use Rattle.modbus.specs.Bytes.{two}
 use Rattle.modbus.specs.Check.{lrc}
 use Rattle.modbus.specs.Request.{exception}
@@ -47,9 +47,9 @@ abbrev pub short : ErrorKind → Response → Short
 short k r = record { why = k; at = r }
 
 -- in numbers: 0 or the refusal's
-abbrev pub grown : Step Short Response → ℕ × Response
-grown (go r) = (0, r)
-grown (stop x) = (number (x .why), x .at)
+abbrev pub growth : Step Short Response → ℕ × Response
+growth (go r) = (0, r)
+growth (stop x) = (number (x .why), x .at)
 
 -- as the code says it, with the slice afterwards
 abbrev pub grownPaper : Grown → List ℕ → ℕ × Response
@@ -78,41 +78,35 @@ mostLength Rtu = largest
 mostLength Ascii = largest
 mostLength TcpUdp = 65535
 
+-- it can be set in a slice of so many bytes
+abbrev pub Settable : ModbusProto → ℕ → ℕ → ℕ → Type 0
+Settable p n room len = (n ≤ mostLength p) × (len + length (lengthField p n) ≤ room)
+
+abbrev pub settable? : (p : ModbusProto) (n room len : ℕ) → Dec (Settable p n room len)
+settable? p n room len = (n ≤? mostLength p) and? (len + length (lengthField p n) ≤? room)
+
+-- what a response begins with: the length field, and the first n bytes as asked
+unfoldable pub begun : ModbusProto → ℕ → List ℕ → ℕ → ℕ → Response → Step Short Response
+begun p bytes buf start n given = do
+  need (bytes ≤? mostLength p) (short OOB given)
+  r ← add (lengthField p bytes) given
+  need (start + n ≤? largest) (short OOB given)
+  need (start + n ≤? length buf) (short FrameBroken given)
+  add (take n (drop start buf)) r
+
 -- a byte count that a byte holds
 abbrev pub byteCounted : ℕ → Response → Step Short Response
 byteCounted bytes r = do
   need (bytes ≤? 255) (short OOB r)
   add (bytes ∷ []) r
 
--- the rest of a read's response up to its data: unit and function as asked, byte count
-abbrev pub counted : List ℕ → ℕ → ℕ → Response → Response → Step Short Response
-counted buf start bytes given r = do
-  need (start + 2 ≤? largest) (short OOB given)
-  need (start + 2 ≤? length buf) (short FrameBroken given)
-  a ← add (take 2 (drop start buf)) r
-  byteCounted bytes a
+-- a read's response up to its data: unit and function as asked, byte count
+abbrev pub head : ModbusProto → List ℕ → ℕ → ℕ → Response → Step Short Response
+head p buf start bytes given = begun p (bytes + 3) buf start 2 given >>= byteCounted bytes
 
--- a read's response up to its data
-unfoldable pub head : ModbusProto → List ℕ → ℕ → ℕ → Response → Step Short Response
-head p buf start bytes given = do
-  need (given .len ≤? length (given .out)) (short OOB given)
-  need (bytes + 3 ≤? mostLength p) (short OOB given)
-  r ← add (lengthField p (bytes + 3)) given
-  counted buf start bytes given r
-
--- the first six bytes as asked
-abbrev pub repeated : List ℕ → ℕ → Response → Response → Step Short Response
-repeated buf start given r = do
-  need (start + 6 ≤? largest) (short OOB given)
-  need (start + 6 ≤? length buf) (short FrameBroken given)
-  add (take 6 (drop start buf)) r
-
--- a write's response
-unfoldable pub echo : ModbusProto → List ℕ → ℕ → Response → Step Short Response
-echo p buf start given = do
-  need (given .len ≤? length (given .out)) (short OOB given)
-  r ← add (lengthField p 6) given
-  repeated buf start given r
+-- a write's response: the first six bytes as asked
+abbrev pub echo : ModbusProto → List ℕ → ℕ → Response → Step Short Response
+echo p buf start given = begun p 6 buf start 6 given
 
 -- an exception: length field, unit, the function with its highest bit set, code
 unfoldable pub except : ModbusProto → ℕ → ℕ → ℕ → Response → Step Short Response

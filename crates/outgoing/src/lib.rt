@@ -6,14 +6,16 @@ use modbus::DoneAnswer;
 use modbus::ErrorKind;
 use modbus::ModbusProto;
 use modbus::SizeAnswer;
+ghost use mathlib.Core.Bool.{true, false};
 ghost use mathlib.Core.Path.{_≡_};
 ghost use mathlib.Core.List.{_∷_};
 ghost use Prim.Native.Nat.{_≤_};
 ghost use lib.ListN.{length};
+ghost use Rattle.modbus.specs.Step.{choose};
 ghost use Rattle.modbus.specs.Paper.{told, donePaper};
 ghost use Rattle.modbus.specs.Request.{exception};
 ghost use Rattle.modbus.specs.declared.ModbusProto.the-variants as proto;
-ghost use Rattle.outgoing.specs.Grow.{reached, grown, grownPaper, refusedAt, response, add, byteCounted, counted, head, repeated, echo, except, seal};
+ghost use Rattle.outgoing.specs.Grow.{reached, growth, grownPaper, refusedAt, response, add, lengthField, mostLength, settable?, begun, byteCounted, head, echo, except, seal};
 
 // What a call that adds to a response leaves: its answer, and the response's length.
 pub struct Grown {
@@ -45,7 +47,7 @@ fn short(kind: ErrorKind, len: usize) -> Grown
 
 // Bytes added to a response.
 fn extend(out: &mut [u8], len: usize, other: &[u8]) -> Grown
-    ensures { λ r. ⌜ grownPaper r (now (out .exit)) ≡ grown (add (now (other .entry)) (response len (now (out .entry)))) ⌝ }
+    ensures { λ r. ⌜ grownPaper r (now (out .exit)) ≡ growth (add (now (other .entry)) (response len (now (out .entry)))) ⌝ }
 {
     match response::extend(out, len, other) {
         SizeAnswer::Refused(k) => short(k, len),
@@ -56,7 +58,74 @@ fn extend(out: &mut [u8], len: usize, other: &[u8]) -> Grown
     }
 }
 
-// A read's response up to its data: the length field of TCP, unit and function as asked, byte count.
+// Whether the length field cannot be set in a slice of `room` bytes.
+fn unsettable(proto: ModbusProto, data_len: usize, room: usize, len: usize) -> bool
+    ensures { λ r. ⌜ r ≡ choose (settable? proto «data_len» room len) false true ⌝ }
+{
+    if room < len {
+        return true;
+    }
+    match proto {
+        ModbusProto::Rtu => false,
+        ModbusProto::Ascii => false,
+        ModbusProto::TcpUdp => {
+            if 65535 < data_len {
+                return true;
+            }
+            if room - len < 2 {
+                return true;
+            }
+            false
+        }
+    }
+}
+
+// The crate's macro: the length field, which a TCP response has.
+fn tcp_response_set_data_len(
+    proto: ModbusProto,
+    data_len: usize,
+    out: &mut [u8],
+    len: usize,
+) -> Grown
+    requires { ⌜ «data_len» ≤ mostLength proto ⌝ }
+    ensures { λ r. ⌜ grownPaper r (now (out .exit)) ≡ growth (add (lengthField proto «data_len») (response len (now (out .entry)))) ⌝ }
+{
+    match proto {
+        ModbusProto::Rtu => extend(out, len, b""),
+        ModbusProto::Ascii => extend(out, len, b""),
+        ModbusProto::TcpUdp => {
+            let field = [(data_len / 256) as u8, (data_len % 256) as u8];
+            extend(out, len, &field)
+        }
+    }
+}
+
+// What a response begins with: the length field, and the first n bytes as asked.
+fn begin(
+    proto: ModbusProto,
+    data_len: usize,
+    buf: &[u8],
+    start: usize,
+    n: usize,
+    out: &mut [u8],
+    len: usize,
+) -> Grown
+    ensures { λ r. ⌜ grownPaper r (now (out .exit)) ≡ growth (begun proto «data_len» (now (buf .entry)) start n (response len (now (out .entry)))) ⌝ }
+{
+    if unsettable(proto, data_len, out.len(), len) {
+        return short(ErrorKind::OOB, len);
+    }
+    match reach(buf, start, n) {
+        DoneAnswer::Refused(k) => short(k, len),
+        DoneAnswer::Done => {
+            let field = tcp_response_set_data_len(proto, data_len, out, len);
+            let end = start + n;
+            extend(out, field.len, &buf[start..end])
+        }
+    }
+}
+
+// A read's response up to its data: unit and function as asked, byte count.
 pub fn head(
     proto: ModbusProto,
     buf: &[u8],
@@ -65,59 +134,18 @@ pub fn head(
     out: &mut [u8],
     len: usize,
 ) -> Grown
-    ensures { λ r. ⌜ grownPaper r (now (out .exit)) ≡ grown (head proto (now (buf .entry)) start bytes (response len (now (out .entry)))) ⌝ }
+    ensures { λ r. ⌜ grownPaper r (now (out .exit)) ≡ growth (head proto (now (buf .entry)) start bytes (response len (now (out .entry)))) ⌝ }
 {
-    if out.len() < len {
-        return short(ErrorKind::OOB, len);
-    }
-    match proto {
-        ModbusProto::Rtu => count(buf, start, bytes, out, len),
-        ModbusProto::Ascii => count(buf, start, bytes, out, len),
-        ModbusProto::TcpUdp => tcp_head(buf, start, bytes, out, len),
-    }
-}
-
-fn tcp_head(buf: &[u8], start: usize, bytes: u16, out: &mut [u8], len: usize) -> Grown
-    requires { ⌜ len ≤ length (now out) ⌝ }
-    ensures { λ r. ⌜ grownPaper r (now (out .exit)) ≡ grown (head proto.TcpUdp (now (buf .entry)) start bytes (response len (now (out .entry)))) ⌝ }
-{
-    if 65532 < bytes {
-        return short(ErrorKind::OOB, len);
-    }
-    if out.len() - len < 2 {
-        return short(ErrorKind::OOB, len);
-    }
-    match reach(buf, start, 2) {
-        DoneAnswer::Refused(k) => short(k, len),
-        DoneAnswer::Done => {
-            let n = bytes + 3;
-            let field = [(n / 256) as u8, (n % 256) as u8];
-            let r = extend(out, len, &field);
-            count(buf, start, bytes, out, r.len)
-        }
-    }
-}
-
-// Unit and function as asked, byte count.
-fn count(buf: &[u8], start: usize, bytes: u16, out: &mut [u8], len: usize) -> Grown
-    ensures { λ r. ⌜ grownPaper r (now (out .exit)) ≡ grown (counted (now (buf .entry)) start bytes (response len (now (out .entry))) (response len (now (out .entry)))) ⌝ }
-{
-    match reach(buf, start, 2) {
-        DoneAnswer::Refused(k) => short(k, len),
-        DoneAnswer::Done => {
-            let end = start + 2;
-            let r = extend(out, len, &buf[start..end]);
-            let answer = r.answer;
-            match answer {
-                DoneAnswer::Refused(_) => r,
-                DoneAnswer::Done => byte_count(bytes, out, r.len),
-            }
-        }
+    let b = begin(proto, bytes as usize + 3, buf, start, 2, out, len);
+    let answer = b.answer;
+    match answer {
+        DoneAnswer::Refused(_) => b,
+        DoneAnswer::Done => byte_count(bytes, out, b.len),
     }
 }
 
 fn byte_count(bytes: u16, out: &mut [u8], len: usize) -> Grown
-    ensures { λ r. ⌜ grownPaper r (now (out .exit)) ≡ grown (byteCounted bytes (response len (now (out .entry)))) ⌝ }
+    ensures { λ r. ⌜ grownPaper r (now (out .exit)) ≡ growth (byteCounted bytes (response len (now (out .entry)))) ⌝ }
 {
     if 255 < bytes {
         return short(ErrorKind::OOB, len);
@@ -126,47 +154,11 @@ fn byte_count(bytes: u16, out: &mut [u8], len: usize) -> Grown
     extend(out, len, &byte)
 }
 
-// A write's response: the length field of TCP, and the first six bytes as asked.
+// A write's response: the first six bytes as asked.
 pub fn echo(proto: ModbusProto, buf: &[u8], start: usize, out: &mut [u8], len: usize) -> Grown
-    ensures { λ r. ⌜ grownPaper r (now (out .exit)) ≡ grown (echo proto (now (buf .entry)) start (response len (now (out .entry)))) ⌝ }
+    ensures { λ r. ⌜ grownPaper r (now (out .exit)) ≡ growth (echo proto (now (buf .entry)) start (response len (now (out .entry)))) ⌝ }
 {
-    if out.len() < len {
-        return short(ErrorKind::OOB, len);
-    }
-    match proto {
-        ModbusProto::Rtu => repeat(buf, start, out, len),
-        ModbusProto::Ascii => repeat(buf, start, out, len),
-        ModbusProto::TcpUdp => tcp_echo(buf, start, out, len),
-    }
-}
-
-fn tcp_echo(buf: &[u8], start: usize, out: &mut [u8], len: usize) -> Grown
-    requires { ⌜ len ≤ length (now out) ⌝ }
-    ensures { λ r. ⌜ grownPaper r (now (out .exit)) ≡ grown (echo proto.TcpUdp (now (buf .entry)) start (response len (now (out .entry)))) ⌝ }
-{
-    if out.len() - len < 2 {
-        return short(ErrorKind::OOB, len);
-    }
-    match reach(buf, start, 6) {
-        DoneAnswer::Refused(k) => short(k, len),
-        DoneAnswer::Done => {
-            let field = [0u8, 6u8];
-            let r = extend(out, len, &field);
-            repeat(buf, start, out, r.len)
-        }
-    }
-}
-
-fn repeat(buf: &[u8], start: usize, out: &mut [u8], len: usize) -> Grown
-    ensures { λ r. ⌜ grownPaper r (now (out .exit)) ≡ grown (repeated (now (buf .entry)) start (response len (now (out .entry))) (response len (now (out .entry)))) ⌝ }
-{
-    match reach(buf, start, 6) {
-        DoneAnswer::Refused(k) => short(k, len),
-        DoneAnswer::Done => {
-            let end = start + 6;
-            extend(out, len, &buf[start..end])
-        }
-    }
+    begin(proto, 6, buf, start, 6, out, len)
 }
 
 // An exception: the length field of TCP, unit, function with its highest bit set, code.
@@ -178,7 +170,7 @@ pub fn except(
     out: &mut [u8],
     len: usize,
 ) -> Grown
-    ensures { λ r. ⌜ grownPaper r (now (out .exit)) ≡ grown (except proto unit function code (response len (now (out .entry)))) ⌝ }
+    ensures { λ r. ⌜ grownPaper r (now (out .exit)) ≡ growth (except proto unit function code (response len (now (out .entry)))) ⌝ }
 {
     if out.len() < len {
         return short(ErrorKind::OOB, len);
@@ -198,7 +190,7 @@ pub fn except(
 
 fn serial_exception(unit: u8, function: u8, code: u8, out: &mut [u8], len: usize) -> Grown
     requires { ⌜ function ≤ 127 ⌝ }
-    ensures { λ r. ⌜ grownPaper r (now (out .exit)) ≡ grown (add (unit ∷ exception function code) (response len (now (out .entry)))) ⌝ }
+    ensures { λ r. ⌜ grownPaper r (now (out .exit)) ≡ growth (add (unit ∷ exception function code) (response len (now (out .entry)))) ⌝ }
 {
     let bytes = [unit, function + 128, code];
     extend(out, len, &bytes)
@@ -206,7 +198,7 @@ fn serial_exception(unit: u8, function: u8, code: u8, out: &mut [u8], len: usize
 
 // The check of a serial line.
 pub fn seal(proto: ModbusProto, out: &mut [u8], len: usize) -> Grown
-    ensures { λ r. ⌜ grownPaper r (now (out .exit)) ≡ grown (seal proto (response len (now (out .entry)))) ⌝ }
+    ensures { λ r. ⌜ grownPaper r (now (out .exit)) ≡ growth (seal proto (response len (now (out .entry)))) ⌝ }
 {
     if out.len() < len {
         return short(ErrorKind::OOB, len);
@@ -223,7 +215,7 @@ pub fn seal(proto: ModbusProto, out: &mut [u8], len: usize) -> Grown
 
 fn add_crc(out: &mut [u8], len: usize) -> Grown
     requires { ⌜ len ≤ length (now out) ⌝ }
-    ensures { λ r. ⌜ grownPaper r (now (out .exit)) ≡ grown (seal proto.Rtu (response len (now (out .entry)))) ⌝ }
+    ensures { λ r. ⌜ grownPaper r (now (out .exit)) ≡ growth (seal proto.Rtu (response len (now (out .entry)))) ⌝ }
 {
     if 255 < len {
         return short(ErrorKind::OOB, len);
@@ -235,7 +227,7 @@ fn add_crc(out: &mut [u8], len: usize) -> Grown
 
 fn add_lrc(out: &mut [u8], len: usize) -> Grown
     requires { ⌜ len ≤ length (now out) ⌝ }
-    ensures { λ r. ⌜ grownPaper r (now (out .exit)) ≡ grown (seal proto.Ascii (response len (now (out .entry)))) ⌝ }
+    ensures { λ r. ⌜ grownPaper r (now (out .exit)) ≡ growth (seal proto.Ascii (response len (now (out .entry)))) ⌝ }
 {
     if 255 < len {
         return short(ErrorKind::OOB, len);

@@ -10,9 +10,9 @@ use lib.ListN.{length, getD, take, drop}
 use types.Run.{OneOf, miss}
 use denote.Enum.Declared.{tagOf}
 use Rattle.modbus.specs.Step.{Step, stop, go, _>>=_, choose, _≟_}
-use Rattle.modbus.specs.Table.{Kind, bit, Tab}
-use Rattle.modbus.specs.Request.{Fn, reads}
-use Rattle.modbus.specs.Storage.{Storage, layout}
+use Rattle.modbus.specs.Table.{Kind, bit, Tab, target}
+use Rattle.modbus.specs.Ported.{Ported, reads}
+use Rattle.modbus.specs.Storage.{Storage, packed, storage}
 use Rattle.modbus.specs.Paper.{number, told, donePaper, sizePaper, digitOf, toldWith}
 use Rattle.modbus.specs.declared.ErrorKind.{ErrorKind}
 use Rattle.modbus.specs.declared.ErrorKind.the-variants.{OOB, OOBContext, FrameBroken, ReadCallOnWriteFrame}
@@ -25,14 +25,13 @@ use Rattle.modbus.proofs.PaperLaws.{told-same, value-with, refusal-with}
 use Rattle.modbus.proofs.ErrorKind.{the-type}
 use Rattle.tables.specs.Calls.{added, changed}
 use Rattle.tables.specs.Lent.{Lent}
-use Rattle.outgoing.specs.Grow.{Response, reached, grownPaper, head, except, seal}
-use Rattle.outgoing.specs.Grow as grow
+use Rattle.outgoing.specs.Grow.{Response, response, Short, growth, grownPaper, reached, head, except, seal}
 use Rattle.outgoing.specs.declared.Grown.{Grown}
 use Rattle.outgoing.proofs.GrowLaws.{grew, stopped, goes-on, ends-there}
-use Rattle.frame.specs.State.{fnOf, grown, withError, After, well, refused, ended, leftPaper, doneOf, refusedOf}
-use Rattle.frame.specs.Parse.{second}
-use Rattle.process.specs.Process.{responseOf, adding, dataBytes, dataAdded, cellsAdded, readFrom, readBy, readProcessed, endedWith, confirmed, Legal, valueOf, oneWritten, dataHeld, storedMany, manyWritten, wrote, writing, writeBy, writeProcessed, excepted, finalized}
-use Rattle.process.specs.Parts.{resumed, dataLeft, confirmedBy}
+use Rattle.frame.specs.State.{portedOf, grown, withError, After, well, refused, ended, leftPaper, doneOf, refusedOf}
+use Rattle.frame.specs.Parse.{secondWord}
+use Rattle.process.specs.Process.{responseOf, adding, dataBytes, dataAdded, cellsAdded, tableRead, readBy, readProcessed, endedWith, confirmed, Legal, valueOf, oneWritten, dataBehind, dataHeld, storedMany, manyWritten, wrote, wroteTo, writeBy, writeProcessed, excepted, finalized}
+use Rattle.process.specs.Resumed.{resumed, dataLeft, confirmedBy}
 use Rattle.frame.specs.declared.ModbusFunction.{ModbusFunction}
 use Rattle.frame.specs.declared.ModbusError.{ModbusError}
 use Rattle.frame.specs.declared.ModbusError.the-variants.{Unset, Code}
@@ -90,25 +89,25 @@ data-left s out m (size.Refused k) x e =
 -- g is what the code answered for the response up to the data, l the slice then; the data are so many bytes
 module _ (S : Storage) (table : List ℕ) (cells : ℕ) (s : ModbusFrame) (buf out : List ℕ) (bytes : ℕ)
     (b : bytes ≡ dataBytes (S .kind) (s .count)) (g : Grown) (l : List ℕ)
-    (e : grownPaper g l ≡ grow.grown (head (s .proto) buf (s .«frame_start») bytes (responseOf s out))) where
-  read-came : (m : Step grow.Short Response) → head (s .proto) buf (s .«frame_start») bytes (responseOf s out) ≡ m
-      → cellsAdded S table cells s m ≡ readFrom S table cells s buf out
+    (e : grownPaper g l ≡ growth (head (s .proto) buf (s .«frame_start») bytes (responseOf s out))) where
+  read-came : (m : Step Short Response) → head (s .proto) buf (s .«frame_start») bytes (responseOf s out) ≡ m
+      → cellsAdded S table cells s m ≡ tableRead S table cells s buf out
   read-came m p =
       ap (cellsAdded S table cells s)
       (sym p ∙ ap (λ (n : ℕ). head (s .proto) buf (s .«frame_start») n (responseOf s out)) b)
 
   told-as : (a : DoneAnswer) → g .answer ≡ a
-      → grow.grown (head (s .proto) buf (s .«frame_start») bytes (responseOf s out))
-      ≡ (donePaper a .0, grow.response (g .len) l)
-  told-as a q = sym e ∙ ap (λ (x : DoneAnswer). (donePaper x .0, grow.response (g .len) l)) q
+      → growth (head (s .proto) buf (s .«frame_start») bytes (responseOf s out))
+      ≡ (donePaper a .0, response (g .len) l)
+  told-as a q = sym e ∙ ap (λ (x : DoneAnswer). (donePaper x .0, response (g .len) l)) q
 
   pub read-refused : (k : ErrorKind) → g .answer ≡ Refused k → (r : Left) → r ≡ refusedOf k (grown (g .len) s)
-      → leftPaper r l ≡ readFrom S table cells s buf out
+      → leftPaper r l ≡ tableRead S table cells s buf out
   read-refused k q r p = left l p ∙ read-came _ (stopped _ k (g .len) l (told-as (Refused k) q))
 
   pub read-data : g .answer ≡ Done → (a : SizeAnswer) (m : List ℕ)
       → (sizePaper a, m) ≡ toldWith l (added S table cells (s .reg) (s .count) l (g .len))
-      → (r : Left) → r ≡ dataLeft (grown (g .len) s) a → leftPaper r m ≡ readFrom S table cells s buf out
+      → (r : Left) → r ≡ dataLeft (grown (g .len) s) a → leftPaper r m ≡ tableRead S table cells s buf out
   read-data q a m f r p =
       left m p
       ∙ data-left (grown (g .len) s) l m a (added S table cells (s .reg) (s .count) l (g .len)) f
@@ -122,9 +121,9 @@ module _ (s : ModbusFrame) (buf : List ℕ) (l : Lent) (out : List ℕ) where
   read-long h = ap ended (fail _ _ _ (λ (k : s .«response_len» ≤ length out). omega arith))
 
   pub read-by : s .«response_len» ≤ length out → (f : ModbusFunction) → s .func ≡ f
-      → readBy (fnOf f) s buf l out ≡ readProcessed s buf l out
+      → readBy (portedOf f) s buf l out ≡ readProcessed s buf l out
   unfolding readProcessed
-  read-by h f e = sym (ap ended (pass _ _ _ h) ∙ ap (λ (x : ModbusFunction). readBy (fnOf x) s buf l out) e)
+  read-by h f e = sym (ap ended (pass _ _ _ h) ∙ ap (λ (x : ModbusFunction). readBy (portedOf x) s buf l out) e)
 
 -- ---- a write's response
 
@@ -138,10 +137,15 @@ confirms s buf out table m (Refused k) x e =
 
 -- ---- a write of one
 
--- v is the second word, as the code reads it
-pub coil-value : (v w : ℕ) → v ≡ w → Legal bit w → digitOf (eqb v 0xFF00) ≡ valueOf bit w
-coil-value v w p (inl e) = rw (p, e) refl
-coil-value v w p (inr e) = rw (p, e) refl
+coil-value : (v : ℕ) → Legal bit v → digitOf (eqb v 0xFF00) ≡ valueOf bit v
+coil-value v (inl e) = rw e refl
+coil-value v (inr e) = rw e refl
+
+-- a coil is on or off
+pub coil-set : (table : List ℕ) (cells reg v : ℕ) → Legal bit v
+    → toldWith table (changed packed table cells reg (digitOf (eqb v 0xFF00)))
+    ≡ toldWith table (changed packed table cells reg (valueOf bit v))
+coil-set table cells reg v h = ap (λ (n : ℕ). toldWith table (changed packed table cells reg n)) (coil-value v h)
 
 -- r is what the code answered for the frame's bytes
 module _ (k : Kind) (table : List ℕ) (cells : ℕ) (s : ModbusFrame) (buf out : List ℕ) (r : DoneAnswer)
@@ -153,7 +157,7 @@ module _ (k : Kind) (table : List ℕ) (cells : ℕ) (s : ModbusFrame) (buf out 
       ap (λ (x : After). (x, table)) (left out p) ∙ sym (ap (endedWith table) (check-refused _ _ _ _ r e j q))
 
   module _ (q : r ≡ Done) where
-    pub one-illegal : ¬ Legal k (second s buf) → (a : Left) (t : ModbusFrame) → t ≡ withError 3 s → a ≡ doneOf t
+    pub one-illegal : ¬ Legal k (secondWord s buf) → (a : Left) (t : ModbusFrame) → t ≡ withError 3 s → a ≡ doneOf t
         → (leftPaper a out, table) ≡ oneWritten k table cells s buf out
     unfolding oneWritten
     one-illegal h a t p f =
@@ -161,14 +165,14 @@ module _ (k : Kind) (table : List ℕ) (cells : ℕ) (s : ModbusFrame) (buf out 
         ∙ sym (ap (endedWith table) (check-done _ _ _ _ r e q ∙ fail _ _ _ h))
 
     -- v is the value as the code gives it, a its answer and m the table afterwards
-    pub one-done : Legal k (second s buf) → (v : ℕ) → v ≡ valueOf k (second s buf) → (a : DoneAnswer) (m : List ℕ)
-        → (donePaper a, m) ≡ toldWith table (changed (layout k) table cells (s .reg) v)
+    pub one-done : Legal k (secondWord s buf) → (v : ℕ) → v ≡ valueOf k (secondWord s buf) → (a : DoneAnswer) (m : List ℕ)
+        → (donePaper a, m) ≡ toldWith table (changed (storage (target k)) table cells (s .reg) v)
         → (x : After) → x ≡ confirmedBy s buf out a → (x, m) ≡ oneWritten k table cells s buf out
     unfolding oneWritten
     one-done h v w a m f x p =
         ap (λ (y : After). (y, m)) p
-        ∙ confirms s buf out table m a (changed (layout k) table cells (s .reg) v) f
-        ∙ ap (λ (n : ℕ). confirmed s buf out table (changed (layout k) table cells (s .reg) n)) w
+        ∙ confirms s buf out table m a (changed (storage (target k)) table cells (s .reg) v) f
+        ∙ ap (λ (n : ℕ). confirmed s buf out table (changed (storage (target k)) table cells (s .reg) n)) w
         ∙ sym (ap (endedWith table) (check-done _ _ _ _ r e q ∙ pass _ _ _ h))
 
 -- ---- a write of many
@@ -179,16 +183,9 @@ module _ (buf : List ℕ) (start : ℕ) (r : DoneAnswer) (e : donePaper r ≡ to
   unfolding dataHeld
   held-unread k q = halt _ _ (told-same _ (stop k) (sym e ∙ ap donePaper q))
 
-  module _ (q : r ≡ Done) where
-    pub held-short : length buf < start + 7 + getD buf (start + 6) 0 → dataHeld buf start ≡ stop FrameBroken
-    unfolding dataHeld
-    held-short h =
-        follow _ _ (told-same _ (go 0) (sym e ∙ ap donePaper q))
-        ∙ fail _ _ _ (λ (k : start + 7 + getD buf (start + 6) 0 ≤ length buf). omega arith)
-
-    pub held-all : start + 7 + getD buf (start + 6) 0 ≤ length buf → dataHeld buf start ≡ go (getD buf (start + 6) 0)
-    unfolding dataHeld
-    held-all h = follow _ _ (told-same _ (go 0) (sym e ∙ ap donePaper q)) ∙ pass _ _ _ h
+  pub held-behind : r ≡ Done → dataHeld buf start ≡ dataBehind buf start
+  unfolding dataHeld
+  held-behind q = follow _ _ (told-same _ (go 0) (sym e ∙ ap donePaper q))
 
 -- r is what the code answered for the data bytes
 pub held : (buf : List ℕ) (start : ℕ) (r : SizeAnswer) (n : ℕ) → sizePaper r ≡ told (dataHeld buf start)
@@ -235,49 +232,49 @@ module _ (s : ModbusFrame) (buf c : List ℕ) (cn : ℕ) (h : List ℕ) (hn : �
   write-long i r p = write-left r OOB p ∙ sym (pick-no _ _ _ (λ (k : s .«response_len» ≤ length out). omega arith))
 
   module _ (i : s .«response_len» ≤ length out) (f : ModbusFunction) (e : s .func ≡ f) where
-    write-by : writeBy (fnOf f) s buf c cn h hn out ≡ writeProcessed s buf c cn h hn out
+    write-by : writeBy (portedOf f) s buf c cn h hn out ≡ writeProcessed s buf c cn h hn out
     unfolding writeProcessed
-    write-by = sym (pick-yes _ _ _ i ∙ ap (λ (x : ModbusFunction). writeBy (fnOf x) s buf c cn h hn out) e)
+    write-by = sym (pick-yes _ _ _ i ∙ ap (λ (x : ModbusFunction). writeBy (portedOf x) s buf c cn h hn out) e)
 
-    pub write-read : (t : Tab) → fnOf f ≡ reads t → (r : Left) → r ≡ refusedOf ReadCallOnWriteFrame s
+    pub write-read : (t : Tab) → portedOf f ≡ reads t → (r : Left) → r ≡ refusedOf ReadCallOnWriteFrame s
         → wrote (leftPaper r out) c h ≡ writeProcessed s buf c cn h hn out
     write-read t q r p =
-        write-left r ReadCallOnWriteFrame p ∙ sym (ap (λ (x : Fn). writeBy x s buf c cn h hn out) q) ∙ write-by
+        write-left r ReadCallOnWriteFrame p ∙ sym (ap (λ (x : Ported). writeBy x s buf c cn h hn out) q) ∙ write-by
 
     -- p is what the code leaves of a table of that kind, with its bytes
     pub write-table : (k : Kind) (p q : After × List ℕ) → p ≡ q
-        → writing k c h q ≡ writeBy (fnOf f) s buf c cn h hn out → writing k c h p ≡ writeProcessed s buf c cn h hn out
-    write-table k p q w g = ap (writing k c h) w ∙ g ∙ write-by
+        → wroteTo k c h q ≡ writeBy (portedOf f) s buf c cn h hn out → wroteTo k c h p ≡ writeProcessed s buf c cn h hn out
+    write-table k p q w g = ap (wroteTo k c h) w ∙ g ∙ write-by
 
 -- ---- the end of a response
 
 -- r is what the code leaves, g what its last call answered and l the slice then
 module _ (s : ModbusFrame) (out : List ℕ) (r : Left) (g : Grown) (l : List ℕ) (p : r ≡ resumed s g) where
-  pub final-plain : s .error ≡ Unset → grownPaper g l ≡ grow.grown (seal (s .proto) (responseOf s out))
+  pub final-plain : s .error ≡ Unset → grownPaper g l ≡ growth (seal (s .proto) (responseOf s out))
       → leftPaper r l ≡ finalized s out
   unfolding finalized
   final-plain q e =
       resumes s r g l _ p
-      (e ∙ ap grow.grown (sym (follow _ _ (ap (λ (x : ModbusError). excepted x s (responseOf s out)) q))))
+      (e ∙ ap growth (sym (follow _ _ (ap (λ (x : ModbusError). excepted x s (responseOf s out)) q))))
 
   -- an exception
   module _ (c : ℕ) (q : s .error ≡ Code c) where
-    abbrev excepting : Step grow.Short Response
+    abbrev excepting : Step Short Response
     excepting = except (s .proto) (s .«unit_id») (s .«responding_to_fn») c (responseOf s out)
 
     excepting-is : (excepted (s .error) s (responseOf s out) >>= seal (s .proto)) ≡ (excepting >>= seal (s .proto))
     excepting-is = ap (λ (x : ModbusError). excepted x s (responseOf s out) >>= seal (s .proto)) q
 
-    pub final-refused : (k : ErrorKind) → g .answer ≡ Refused k → grownPaper g l ≡ grow.grown excepting
+    pub final-refused : (k : ErrorKind) → g .answer ≡ Refused k → grownPaper g l ≡ growth excepting
         → leftPaper r l ≡ finalized s out
     unfolding finalized
     final-refused k a e =
-        resumes s r g l _ p (ends-there _ (seal (s .proto)) g l k e a ∙ ap grow.grown (sym excepting-is))
+        resumes s r g l _ p (ends-there _ (seal (s .proto)) g l k e a ∙ ap growth (sym excepting-is))
 
     -- x is what was answered for it, m the slice then
-    pub final-sealed : (x : Grown) (m : List ℕ) → x .answer ≡ Done → grownPaper x m ≡ grow.grown excepting
-        → grownPaper g l ≡ grow.grown (seal (s .proto) (grow.response (x .len) m)) → leftPaper r l ≡ finalized s out
+    pub final-sealed : (x : Grown) (m : List ℕ) → x .answer ≡ Done → grownPaper x m ≡ growth excepting
+        → grownPaper g l ≡ growth (seal (s .proto) (response (x .len) m)) → leftPaper r l ≡ finalized s out
     unfolding finalized
     final-sealed x m a e f =
         resumes s r g l _ p
-        (f ∙ ap grow.grown (sym (goes-on _ (seal (s .proto)) x m e a) ∙ sym excepting-is))
+        (f ∙ ap growth (sym (goes-on _ (seal (s .proto)) x m e a) ∙ sym excepting-is))

@@ -1,10 +1,9 @@
--- Each contract of module 6 leaves one possible result, and one possible
--- content of each lent buffer.
+-- Each contract of module 6 leaves one possible result, and one possible content of each lent buffer.
 -- Assumes nothing.
 use mathlib.Core.Path.{_≡_, refl, sym, ap, _∙_}
 use mathlib.Core.List.{List}
 use Prim.Native.Nat.{ℕ}
-use Rattle.modbus.proofs.Unique.{Unique}
+use Rattle.modbus.proofs.Unique.{Unique, size-paper}
 use Rattle.frame.specs.State.{leftPaper}
 use Rattle.process.specs.Process.{Wrote, wrote}
 use Rattle.frame.specs.declared.Left.{Left}
@@ -14,16 +13,16 @@ use Rattle.process.proofs.process_read.Kinds as process-read-kinds
 use Rattle.process.proofs.process_read.Reads as process-read-reads
 use Rattle.process.proofs.process_write.Kinds as process-write-kinds
 use Rattle.process.proofs.process_write.Reads as process-write-reads
-use Rattle.process.proofs.add_head.Kinds as add-head-kinds
-use Rattle.process.proofs.add_head.Reads as add-head-reads
-use Rattle.process.proofs.add_echo.Kinds as add-echo-kinds
-use Rattle.process.proofs.add_echo.Reads as add-echo-reads
-use Rattle.process.proofs.bits_bytes.Kinds as bits-bytes-kinds
-use Rattle.process.proofs.bits_bytes.Reads as bits-bytes-reads
-use Rattle.process.proofs.words_bytes.Kinds as words-bytes-kinds
-use Rattle.process.proofs.words_bytes.Reads as words-bytes-reads
-use Rattle.process.proofs.illegal.Kinds as illegal-kinds
-use Rattle.process.proofs.illegal.Reads as illegal-reads
+use Rattle.process.proofs.added.add_head.Kinds as add-head-kinds
+use Rattle.process.proofs.added.add_head.Reads as add-head-reads
+use Rattle.process.proofs.added.add_echo.Kinds as add-echo-kinds
+use Rattle.process.proofs.added.add_echo.Reads as add-echo-reads
+use Rattle.process.proofs.cells.data_bytes.Kinds as data-bytes-kinds
+use Rattle.process.proofs.cells.data_bytes.Reads as data-bytes-reads
+use Rattle.process.proofs.cells.data_behind.Kinds as data-behind-kinds
+use Rattle.process.proofs.cells.data_behind.Reads as data-behind-reads
+use Rattle.process.proofs.cells.illegal.Kinds as illegal-kinds
+use Rattle.process.proofs.cells.illegal.Reads as illegal-reads
 use Rattle.process.proofs.finalize_response.Kinds as finalize-response-kinds
 use Rattle.process.proofs.finalize_response.Reads as finalize-response-reads
 
@@ -76,11 +75,11 @@ add-head κs a x y u v p q = grown-apart (λ l. (u .0, (u .1 .0, (u .1 .1 .0, (l
 pub add-echo : Unique 2 add-echo-kinds.ps add-echo-kinds.r add-echo-reads.Post
 add-echo κs a x y u v p q = left-paper (λ l. (u .0, (u .1 .0, (l, u .1 .1 .1)))) x y _ _ (p ∙ sym q)
 
-pub bits-bytes : Unique 0 bits-bytes-kinds.ps bits-bytes-kinds.r bits-bytes-reads.Post
-bits-bytes κs a x y u v p q = (p ∙ sym q, refl)
-
-pub words-bytes : Unique 0 words-bytes-kinds.ps words-bytes-kinds.r words-bytes-reads.Post
-words-bytes κs a x y u v p q = (p ∙ sym q, refl)
+pub data-bytes : Unique 0 data-bytes-kinds.ps data-bytes-kinds.r data-bytes-reads.Post
+data-bytes κs a x y u v p q = (p ∙ sym q, refl)
 
 pub illegal : Unique 0 illegal-kinds.ps illegal-kinds.r illegal-reads.Post
 illegal κs a x y u v p q = (p ∙ sym q, refl)
+
+pub data-behind : Unique 1 data-behind-kinds.ps data-behind-kinds.r data-behind-reads.Post
+data-behind κs a x y u v p q = (size-paper x y (p ∙ sym q), refl)

@@ -1,2 +1,3 @@
 pub mod Process
-pub mod Parts
+pub mod Cells
+pub mod Resumed

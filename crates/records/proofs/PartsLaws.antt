@@ -13,7 +13,7 @@ use lib.Seq.{take-suc, take-all, drop-cons, append-snoc, set-at, getD-at}
 use Rattle.modbus.specs.Bytes.{wordAt}
 use Rattle.modbus.specs.Step.{_≤?_}
 use Rattle.modbus.proofs.StepLaws.{pick-yes, pick-no}
-use Rattle.records.specs.Parts.{wideAt, eightAt, lengthOf, startOf, made, wantedAt, stood}
+use Rattle.records.specs.Parts.{wideAt, eightAt, lengthOf, partStart, made, wantedAt, stood}
 
 -- ---- numbers
 
@@ -35,13 +35,13 @@ eight-outside l i h =
     let b = wide-outside l (i + 4) (omega arith) in
     omega arith
 
-pub start-none : (l : List ℕ) (lengths parts : ℕ) → parts ≡ startOf l lengths parts 0
-unfolding startOf
+pub start-none : (l : List ℕ) (lengths parts : ℕ) → parts ≡ partStart l lengths parts 0
+unfolding partStart
 start-none l lengths parts = refl
 
 pub start-next : (l : List ℕ) (lengths parts k : ℕ)
-    → startOf l lengths parts (k + 1) ≡ startOf l lengths parts k + lengthOf l lengths k
-unfolding startOf
+    → partStart l lengths parts (k + 1) ≡ partStart l lengths parts k + lengthOf l lengths k
+unfolding partStart
 start-next l lengths parts k = rw add-one
 
 -- inside a list it is all one what stands behind it

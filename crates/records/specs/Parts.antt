@@ -19,9 +19,9 @@ eightAt l i = wideAt l i * 4294967296 + wideAt l (i + 4)
 abbrev pub lengthOf : List ℕ → ℕ → ℕ → ℕ
 lengthOf l lengths k = wordAt l (lengths + 2 * k)
 
-unfoldable pub startOf : List ℕ → ℕ → ℕ → ℕ → ℕ
-startOf l lengths parts zero = parts
-startOf l lengths parts (suc k) = startOf l lengths parts k + lengthOf l lengths k
+unfoldable pub partStart : List ℕ → ℕ → ℕ → ℕ → ℕ
+partStart l lengths parts zero = parts
+partStart l lengths parts (suc k) = partStart l lengths parts k + lengthOf l lengths k
 
 -- so many bytes from a place on, and where they stand, so it is no copy; none where they are not all there
 abbrev pub cutOf : RefT (List ℕ) → ℕ → ℕ → List ℕ × (ℕ × ℕ)
@@ -30,7 +30,7 @@ cutOf t from len =
     ([], (t .ptr .0, 0 + t .ptr .1))
 
 abbrev pub partOf : RefT (List ℕ) → ℕ → ℕ → ℕ → List ℕ × (ℕ × ℕ)
-partOf t lengths parts k = cutOf t (startOf (now t) lengths parts k) (lengthOf (now t) lengths k)
+partOf t lengths parts k = cutOf t (partStart (now t) lengths parts k) (lengthOf (now t) lengths k)
 
 -- n bytes, each said by its place
 unfoldable pub made : (ℕ → ℕ) → ℕ → List ℕ

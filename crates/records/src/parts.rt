@@ -4,7 +4,7 @@ use octets::word;
 ghost use mathlib.Core.Path.{_≡_};
 ghost use Prim.Native.Nat.{_<_};
 ghost use lib.ListN.{getD};
-ghost use Rattle.records.specs.Parts.{wideAt, eightAt, startOf, cutOf, partOf, laidIn, countedIn, wantedAt, stood};
+ghost use Rattle.records.specs.Parts.{wideAt, eightAt, partStart, cutOf, partOf, laidIn, countedIn, wantedAt, stood};
 
 // Numbers of four and of eight bytes, high byte first; what lies outside the record is 0.
 pub fn wide(record: &[u8], at: usize) -> usize
@@ -29,7 +29,7 @@ pub fn eight(record: &[u8], at: usize) -> usize
 
 // Where the part k begins.
 pub fn start_of(record: &[u8], lengths: u16, parts: u16, k: u8) -> usize
-    ensures { λ r. ⌜ r ≡ startOf (now («record» .entry)) lengths parts k ⌝ }
+    ensures { λ r. ⌜ r ≡ partStart (now («record» .entry)) lengths parts k ⌝ }
 {
     let mut at = parts as usize;
     for i in 0..k {

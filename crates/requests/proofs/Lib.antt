@@ -1,2 +1,3 @@
-pub mod ParseLaws
+pub mod JudgedLaws
+pub mod FineLaws
 pub mod Unique

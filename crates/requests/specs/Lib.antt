@@ -1,1 +1,1 @@
-pub mod Parse
+pub mod Judged

@@ -1,13 +1,17 @@
-// What the body of a frame asks, from its function on: document 01's faults up to the values, and the request as the driver keeps it.
+// What the body of a frame asks, from its function on: document 01's faults from the function to the address, and the request as the driver
+// keeps it. No table is looked at: of each table only the number of its cells counts.
 use octets::word;
-ghost use mathlib.Core.Bool.{Bool, true, false};
+ghost use mathlib.Core.Bool.{true, false};
 ghost use mathlib.Core.Path.{_≡_};
+ghost use Prim.Native.Nat.{_+_};
 ghost use lib.ListN.{getD};
-ghost use Rattle.modbus.specs.Step.{choose, _≟_, _or?_};
-ghost use Rattle.modbus.specs.Table.{Kind, Tab, kindOf};
-ghost use Rattle.modbus.specs.Request.{reads, many, code, mostRead};
-ghost use Rattle.modbus.specs.Decode.{lengthy?};
-ghost use Rattle.requests.specs.Parse.{parsed};
+ghost use Rattle.modbus.specs.Step.{choose, _≤?_, _and?_};
+ghost use Rattle.modbus.specs.Table.{Kind, Tab, coils, discretes, holdings, inputs, kindOf, target};
+ghost use Rattle.modbus.specs.Request.{reads, one, many, code, mostRead, mostWritten, octets};
+ghost use Rattle.modbus.specs.Setup.{Setup};
+ghost use Rattle.modbus.specs.Decode.{lengthy?, valued?};
+ghost use Rattle.requests.specs.Judged.{refusedBy, kindBy, writeOf, judged};
+ghost use Rattle.requests.specs.declared.Verdict.the-variants as verdict;
 
 // A read: its function tells the table.
 pub struct ReadCells {
@@ -16,106 +20,134 @@ pub struct ReadCells {
     pub count: u16,
 }
 
-// A write of coils: its data stand in the body from `at` on, as many bytes as hold `count` bits.
-pub struct WriteBits {
-    pub address: u16,
-    pub count: u16,
-    pub at: usize,
-}
-
-// A write of registers: its data stand in the body from `at` on, two bytes for each of `count`.
-pub struct WriteWords {
+// A write: the cells that it names, and where its data stand in the body. Bits are packed into as few bytes as hold them, words have two each.
+pub struct Cells {
     pub address: u16,
     pub count: u16,
     pub at: usize,
 }
 
 pub enum Write {
-    Bits(WriteBits),
-    Words(WriteWords),
+    Bits(Cells),
+    Words(Cells),
 }
 
-pub enum Fault {
-    BadFunction,
-    Unsupported,
-    BroadcastRead,
-    Length,
-    Value,
-}
-
-pub enum Parsed {
+// What becomes of a request: it is served as a read or a write, or refused with a code, or nothing is sent, with this outcome and code.
+pub enum Verdict {
     Read(ReadCells),
     Written(Write),
-    Refused(Fault),
+    Refused(u8),
+    Quiet(u8, u8),
 }
 
-// A read of at most `most` cells.
-fn parse_read(body: &[u8], broadcast: bool, most: u16) -> Parsed
-    requires { ⌜ ((t : Tab) × (getD (now body) 1 0 ≡ code (reads t)) × (most ≡ mostRead (kindOf t))) ⌝ }
-    ensures { λ r. ⌜ r ≡ parsed broadcast (now (body .entry)) ⌝ }
+// A fault with a code.
+pub fn refused(broadcast: bool, code: u8) -> Verdict
+    ensures { λ r. ⌜ r ≡ refusedBy broadcast code ⌝ }
 {
     if broadcast {
-        return Parsed::Refused(Fault::BroadcastRead);
+        return Verdict::Quiet(3, code);
+    }
+    Verdict::Refused(code)
+}
+
+// The address rule, for every function: whether cells lie outside a table of so many.
+fn outside(address: u16, count: u16, cells: usize) -> bool
+    ensures { λ r. ⌜ r ≡ choose (address + count ≤? cells) false true ⌝ }
+{
+    if cells < address as usize + count as usize {
+        return true;
+    }
+    false
+}
+
+fn wrong_count(count: u16, most: u16) -> bool
+    ensures { λ r. ⌜ r ≡ choose ((1 ≤? count) and? (count ≤? most)) false true ⌝ }
+{
+    if count < 1 {
+        return true;
+    }
+    if most < count {
+        return true;
+    }
+    false
+}
+
+// A read of at most `most` cells, from a table of `cells`.
+fn judge_read(body: &[u8], broadcast: bool, most: u16, cells: usize) -> Verdict
+    requires { ⌜ ((t : Tab) × (getD (now body) 1 0 ≡ code (reads t)) × (most ≡ mostRead (kindOf t))) ⌝ }
+    ensures { λ r. ⌜ ((s : Setup) → ((t : Tab) → getD (now (body .entry)) 1 0 ≡ code (reads t) → s .cells t ≡ cells) → r ≡ judged s broadcast (now (body .entry))) ⌝ }
+{
+    if broadcast {
+        return Verdict::Quiet(3, 0);
     }
     if body.len() != 6 {
-        return Parsed::Refused(Fault::Length);
+        return Verdict::Quiet(7, 0);
     }
     let count = word(body, 4);
-    if count < 1 {
-        return Parsed::Refused(Fault::Value);
+    if wrong_count(count, most) {
+        return Verdict::Refused(3);
     }
-    if count > most {
-        return Parsed::Refused(Fault::Value);
+    let address = word(body, 2);
+    if outside(address, count, cells) {
+        return Verdict::Refused(2);
     }
-    Parsed::Read(ReadCells {
+    Verdict::Read(ReadCells {
         function: body[1],
-        address: word(body, 2),
+        address: address,
         count: count,
     })
 }
 
-// Whether a coil's value is neither off nor on.
-fn wrong_value(value: u16) -> bool
-    ensures { λ r. ⌜ r ≡ choose ((value ≟ 0) or? (value ≟ 0xFF00)) false true ⌝ }
+// Whether the value of a single coil is neither off nor on; a register may have any.
+fn wrong_value(bits: bool, body: &[u8]) -> bool
+    ensures { λ r. ⌜ r ≡ choose (valued? (one (kindBy bits)) (now (body .entry))) false true ⌝ }
 {
-    match value {
+    if !bits {
+        return false;
+    }
+    match word(body, 4) {
         0 => false,
         0xFF00 => false,
         _ => true,
     }
 }
 
-// A write of one coil.
-fn parse_coil(body: &[u8]) -> Parsed
-    requires { ⌜ getD (now body) 1 0 ≡ 5 ⌝ }
-    ensures { λ r. ⌜ ((broadcast : Bool) → r ≡ parsed broadcast (now (body .entry))) ⌝ }
+fn write_of(bits: bool, c: Cells) -> Write
+    ensures { λ r. ⌜ r ≡ writeOf (kindBy bits) c ⌝ }
 {
-    if body.len() != 6 {
-        return Parsed::Refused(Fault::Length);
+    if bits {
+        return Write::Bits(c);
     }
-    if wrong_value(word(body, 4)) {
-        return Parsed::Refused(Fault::Value);
-    }
-    Parsed::Written(Write::Bits(WriteBits {
-        address: word(body, 2),
-        count: 1,
-        at: 4,
-    }))
+    Write::Words(c)
 }
 
-// A write of one register, which may have any value.
-fn parse_register(body: &[u8]) -> Parsed
-    requires { ⌜ getD (now body) 1 0 ≡ 6 ⌝ }
-    ensures { λ r. ⌜ ((broadcast : Bool) → r ≡ parsed broadcast (now (body .entry))) ⌝ }
+// A write of the right length and values, to a table of `cells`.
+fn judge_address(broadcast: bool, bits: bool, c: Cells, cells: usize) -> Verdict
+    ensures { λ r. ⌜ r ≡ choose (c .address + c .count ≤? cells) (verdict.Written (writeOf (kindBy bits) c)) (refusedBy broadcast 2) ⌝ }
+{
+    if outside(c.address, c.count, cells) {
+        return refused(broadcast, 2);
+    }
+    Verdict::Written(write_of(bits, c))
+}
+
+// A write of one coil or register.
+fn judge_one(body: &[u8], broadcast: bool, bits: bool, cells: usize) -> Verdict
+    requires { ⌜ getD (now body) 1 0 ≡ code (one (kindBy bits)) ⌝ }
+    ensures { λ r. ⌜ ((s : Setup) → s .cells (target (kindBy bits)) ≡ cells → r ≡ judged s broadcast (now (body .entry))) ⌝ }
 {
     if body.len() != 6 {
-        return Parsed::Refused(Fault::Length);
+        return Verdict::Quiet(7, 0);
     }
-    Parsed::Written(Write::Words(WriteWords {
+    if wrong_value(bits, body) {
+        return refused(broadcast, 3);
+    }
+    let c = Cells {
         address: word(body, 2),
         count: 1,
         at: 4,
-    }))
+    };
+    judge_address(broadcast, bits, c, cells)
 }
 
 // Whether a write of many cells has another length than 7 bytes and those of its byte count.
@@ -131,76 +163,74 @@ fn wrong_length(body: &[u8]) -> bool
     false
 }
 
-// A write of many coils.
-fn parse_coils(body: &[u8]) -> Parsed
-    requires { ⌜ getD (now body) 1 0 ≡ 15 ⌝ }
-    ensures { λ r. ⌜ ((broadcast : Bool) → r ≡ parsed broadcast (now (body .entry))) ⌝ }
+// How many bytes hold so many values.
+fn octets_of(bits: bool, count: u16) -> usize
+    ensures { λ r. ⌜ r ≡ octets (kindBy bits) count ⌝ }
+{
+    if bits {
+        return (count as usize + 7) / 8;
+    }
+    2 * (count as usize)
+}
+
+// A write of at most `most` coils or registers.
+fn judge_many(body: &[u8], broadcast: bool, bits: bool, most: u16, cells: usize) -> Verdict
+    requires { ⌜ (getD (now body) 1 0 ≡ code (many (kindBy bits))) × (most ≡ mostWritten (kindBy bits)) ⌝ }
+    ensures { λ r. ⌜ ((s : Setup) → s .cells (target (kindBy bits)) ≡ cells → r ≡ judged s broadcast (now (body .entry))) ⌝ }
 {
     if wrong_length(body) {
-        return Parsed::Refused(Fault::Length);
+        return Verdict::Quiet(7, 0);
     }
     let count = word(body, 4);
-    if count < 1 {
-        return Parsed::Refused(Fault::Value);
+    if wrong_count(count, most) {
+        return refused(broadcast, 3);
     }
-    if count > 1968 {
-        return Parsed::Refused(Fault::Value);
+    if body[6] as usize != octets_of(bits, count) {
+        return refused(broadcast, 3);
     }
-    if body[6] as usize != (count as usize + 7) / 8 {
-        return Parsed::Refused(Fault::Value);
-    }
-    Parsed::Written(Write::Bits(WriteBits {
+    let c = Cells {
         address: word(body, 2),
         count: count,
         at: 7,
-    }))
+    };
+    judge_address(broadcast, bits, c, cells)
 }
 
-// A write of many registers.
-fn parse_registers(body: &[u8]) -> Parsed
-    requires { ⌜ getD (now body) 1 0 ≡ 16 ⌝ }
-    ensures { λ r. ⌜ ((broadcast : Bool) → r ≡ parsed broadcast (now (body .entry))) ⌝ }
+// A function that is not offered.
+fn other_function(function: u8, broadcast: bool) -> Verdict
+    ensures { λ r. ⌜ r ≡ choose (function ≤? 127) (refusedBy broadcast 1) (verdict.Quiet 8 0) ⌝ }
 {
-    if wrong_length(body) {
-        return Parsed::Refused(Fault::Length);
+    if function > 127 {
+        return Verdict::Quiet(8, 0);
     }
-    let count = word(body, 4);
-    if count < 1 {
-        return Parsed::Refused(Fault::Value);
-    }
-    if count > 123 {
-        return Parsed::Refused(Fault::Value);
-    }
-    if body[6] as usize != 2 * (count as usize) {
-        return Parsed::Refused(Fault::Value);
-    }
-    Parsed::Written(Write::Words(WriteWords {
-        address: word(body, 2),
-        count: count,
-        at: 7,
-    }))
+    refused(broadcast, 1)
 }
 
-// The request of a body, which starts with the unit; `broadcast` says whether that is a broadcast number. A body without a function counts
+// The verdict on a body, which starts with the unit; `broadcast` says whether that is a broadcast number. A body without a function counts
 // as one of function 0.
-pub fn parse(body: &[u8], broadcast: bool) -> Parsed
-    ensures { λ r. ⌜ r ≡ parsed broadcast (now (body .entry)) ⌝ }
+pub fn judge(
+    body: &[u8],
+    broadcast: bool,
+    coil_cells: usize,
+    discrete_cells: usize,
+    holding_cells: usize,
+    input_cells: usize,
+) -> Verdict
+    ensures { λ r. ⌜ ((s : Setup) → (s .cells coils ≡ «coil_cells») × (s .cells discretes ≡ «discrete_cells») × (s .cells holdings ≡ «holding_cells») × (s .cells inputs ≡ «input_cells»)
+        → r ≡ judged s broadcast (now (body .entry))) ⌝ }
 {
     if body.len() < 2 {
-        return Parsed::Refused(Fault::Unsupported);
-    }
-    if body[1] > 127 {
-        return Parsed::Refused(Fault::BadFunction);
+        return refused(broadcast, 1);
     }
     match body[1] {
-        1 => parse_read(body, broadcast, 2000),
-        2 => parse_read(body, broadcast, 2000),
-        3 => parse_read(body, broadcast, 125),
-        4 => parse_read(body, broadcast, 125),
-        5 => parse_coil(body),
-        6 => parse_register(body),
-        15 => parse_coils(body),
-        16 => parse_registers(body),
-        _ => Parsed::Refused(Fault::Unsupported),
+        1 => judge_read(body, broadcast, 2000, coil_cells),
+        2 => judge_read(body, broadcast, 2000, discrete_cells),
+        3 => judge_read(body, broadcast, 125, holding_cells),
+        4 => judge_read(body, broadcast, 125, input_cells),
+        5 => judge_one(body, broadcast, true, coil_cells),
+        6 => judge_one(body, broadcast, false, holding_cells),
+        15 => judge_many(body, broadcast, true, 1968, coil_cells),
+        16 => judge_many(body, broadcast, false, 123, holding_cells),
+        _ => other_function(body[1], broadcast),
     }
 }

@@ -45,6 +45,11 @@ module _ (S : Storage) (l : List ℕ) (cells : ℕ) where
     unfolding added
     added-outside h i = pass _ _ _ h ∙ fail _ _ _ (λ k. omega arith)
 
+    pub added-full : len ≤ length out → reg + count ≤ size S l cells → length out < len + octets (S .kind) count
+        → added S l cells reg count out len ≡ stop OOB
+    unfolding added
+    added-full h i k = pass _ _ _ h ∙ pass _ _ _ i ∙ fail _ _ _ (λ j. omega arith)
+
     pub added-inside : reg + count ≤ size S l cells → len + octets (S .kind) count ≤ length out
         → added S l cells reg count out len ≡ go (len + octets (S .kind) count, sets out len (shown (S .kind) (part (S .cell l) reg count)))
     unfolding added

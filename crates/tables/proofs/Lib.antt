@@ -1,4 +1,5 @@
 pub mod CallsLaws
+pub mod EightLaws
 pub mod RunsLaws
 pub mod CoilsUnique
 pub mod RegistersUnique

@@ -4,7 +4,7 @@ use mathlib.Core.List.{List}
 use Prim.Native.Nat.{ℕ}
 use lib.ListN.{length}
 use Rattle.modbus.specs.Table.{Tab, coils, discretes, holdings, inputs, Tables, Sizes}
-use Rattle.modbus.specs.Storage.{coilAt, registerAt}
+use Rattle.modbus.specs.Storage.{storage}
 
 pub record Lent : Type 0 where
   pub coilBytes : List ℕ
@@ -43,14 +43,8 @@ cellsOf l holdings = l .holdingCells
 cellsOf l inputs = l .inputCells
 
 abbrev pub bytesOf : Lent → Sizes
-bytesOf l coils = length (l .coilBytes)
-bytesOf l discretes = length (l .discreteBytes)
-bytesOf l holdings = length (l .holdingBytes)
-bytesOf l inputs = length (l .inputBytes)
+bytesOf l t = length (tableOf l t)
 
 -- what their cells hold
 abbrev pub tablesOf : Lent → Tables
-tablesOf l coils = coilAt (l .coilBytes)
-tablesOf l discretes = coilAt (l .discreteBytes)
-tablesOf l holdings = registerAt (l .holdingBytes)
-tablesOf l inputs = registerAt (l .inputBytes)
+tablesOf l t = storage t .cell (tableOf l t)

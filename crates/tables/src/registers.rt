@@ -6,7 +6,6 @@ use modbus::WordAnswer;
 ghost use mathlib.Core.Path.{_≡_};
 ghost use Prim.Native.Nat.{_*_, _≤_};
 ghost use lib.ListN.{length};
-ghost use lib.Seq.{sets};
 ghost use Rattle.modbus.specs.Paper.{told, toldWith, wordPaper, donePaper, sizePaper};
 ghost use Rattle.modbus.specs.Storage.{registers, size};
 ghost use Rattle.tables.specs.Calls.{got, changed, added, storedWhole, namedIn, named};
@@ -97,16 +96,6 @@ pub fn get_inputs_as_u8(
     add_part(table, cells, reg, count, response, len)
 }
 
-// The first bytes of `dst` become those of `src`.
-fn fill(dst: &mut [u8], src: &[u8])
-    requires { ⌜ length (now src) ≤ length (now dst) ⌝ }
-    ensures { λ _. ⌜ now (dst .exit) ≡ sets (now (dst .entry)) 0 (now (src .entry)) ⌝ }
-{
-    for i in 0..src.len() {
-        dst[i] = src[i];
-    }
-}
-
 pub fn set_holdings_from_u8(table: &mut [u8], cells: usize, reg: u16, values: &[u8]) -> DoneAnswer
     ensures { λ r. ⌜ (donePaper r, now (table .exit)) ≡ toldWith (now (table .entry)) (storedWhole (now (table .entry)) cells reg (now (values .entry))) ⌝ }
 {
@@ -118,7 +107,7 @@ pub fn set_holdings_from_u8(table: &mut [u8], cells: usize, reg: u16, values: &[
         return DoneAnswer::Refused(ErrorKind::OOBContext);
     }
     let a = 2 * first;
-    fill(&mut table[a..], values);
+    response::extend(&mut table[a..], 0, values);
     DoneAnswer::Done
 }
 

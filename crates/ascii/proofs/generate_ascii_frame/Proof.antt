@@ -17,31 +17,13 @@ fitting : (n room : ℕ) (r : Bool) → r ≡ choose (2 * n + 3 ≤? room) true 
 fitting n room r e q =
     picked _ _ _ (sym e ∙ q) (λ p _. p) (λ _ f. let z : _≡_ {A = ℕ} 0 1 = cc in absurd (omega arith))
 
-fits-requires : tie.Need-fits-requires
-fits-requires c κs = search needs
-
-write-while-room-requires : tie.Need-write-while-room-requires
-write-while-room-requires c κs = search needs
-
-same-length : tie.Need-same-length
-same-length c = search needs
-
-returns : tie.Need-returns
-returns c = search needs
-
 write-line-requires : tie.Need-write-line-requires
 write-line-requires c κs = fitting _ _ _ (c .before .before .fits2 .ensures) (not-false _ (c .before .if1 .left))
-
-mul-t5 : tie.Need-mul-t5
-mul-t5 c = search needs
 
 add-t12 : tie.Need-add-t12
 add-t12 c =
     let p = c .before .before .before .before in
     omega (arith, fitting _ _ _ (p .before .fits2 .ensures) (not-false _ (p .if1 .left)))
-
-same-length-2 : tie.Need-same-length-2
-same-length-2 c = search needs
 
 returns-2 : tie.Need-returns-2
 returns-2 c =
@@ -56,12 +38,12 @@ pub generate-ascii-frame-spec : {M : Type 1} → statement M
 generate-ascii-frame-spec =
     tie.close
     (tie.spec
-    fits-requires
-    write-while-room-requires
-    same-length
-    returns
+    (λ c κs. search needs)
+    (λ c κs. search needs)
+    (λ c. search needs)
+    (λ c. search needs)
     write-line-requires
-    mul-t5
+    (λ c. search needs)
     add-t12
-    same-length-2
+    (λ c. search needs)
     returns-2)

@@ -9,14 +9,8 @@ use Rattle.ascii.specs.Plain.{digit?}
 use Rattle.ascii.proofs.other.Statement.{statement}
 use Rattle.ascii.proofs.other.Tie as tie
 
-wrapping-sub-u8-requires : tie.Need-wrapping-sub-u8-requires
-wrapping-sub-u8-requires c κs = search needs
-
 returns : tie.Need-returns
 returns c = sym (pick-yes (digit? _) _ _ (inl (omega arith, omega arith)))
-
-wrapping-sub-u8-requires-2 : tie.Need-wrapping-sub-u8-requires-2
-wrapping-sub-u8-requires-2 c κs = search needs
 
 returns-2 : tie.Need-returns-2
 returns-2 c = sym (pick-yes (digit? _) _ _ (inr (omega arith, omega arith)))
@@ -27,4 +21,4 @@ returns-3 c = sym (pick-no (digit? _) _ _ (λ d. ⊎-elim (λ p. omega (arith, p
 pub other-spec : {M : Type 1} → statement M
 other-spec =
     tie.close
-    (tie.spec wrapping-sub-u8-requires returns wrapping-sub-u8-requires-2 returns-2 returns-3)
+    (tie.spec (λ c κs. search needs) returns (λ c κs. search needs) returns-2 returns-3)

@@ -9,25 +9,10 @@ use Rattle.ascii.proofs.PlainLaws.{begin-small, plain-parts, plain-pars
 use Rattle.ascii.proofs.parse_ascii_frame.Statement.{statement}
 use Rattle.ascii.proofs.parse_ascii_frame.Tie as tie
 
-plain-requires : tie.Need-plain-requires
-plain-requires c κs = search needs
-
-parse-by-pairs-requires : tie.Need-parse-by-pairs-requires
-parse-by-pairs-requires c κs = search needs
-
-same-length : tie.Need-same-length
-same-length c = search needs
-
-returns : tie.Need-returns
-returns c = search needs
-
 shared-slice-read-colon : tie.Need-shared-slice-read-colon
 shared-slice-read-colon c =
     let p = c .before .before .plain .ensures (not-false _ (c .before .if1 .left)) in
     omega (arith, p .0, p .1)
-
-colon-requires : tie.Need-colon-requires
-colon-requires c κs = search needs
 
 sub-n : tie.Need-sub-n
 sub-n c =
@@ -53,9 +38,6 @@ cast-t14 c =
     (f .colon .ensures) p in
     omega (arith, q .1)
 
-same-length-2 : tie.Need-same-length-2
-same-length-2 c = search needs
-
 returns-2 : tie.Need-returns-2
 returns-2 c =
     let f = c .before .before .before .before in
@@ -69,14 +51,14 @@ pub parse-ascii-frame-spec : {M : Type 1} → statement M
 parse-ascii-frame-spec =
     tie.close
     (tie.spec
-    plain-requires
-    parse-by-pairs-requires
-    same-length
-    returns
+    (λ c κs. search needs)
+    (λ c κs. search needs)
+    (λ c. search needs)
+    (λ c. search needs)
     shared-slice-read-colon
-    colon-requires
+    (λ c κs. search needs)
     sub-n
     decode-pairs-requires
     cast-t14
-    same-length-2
+    (λ c. search needs)
     returns-2)

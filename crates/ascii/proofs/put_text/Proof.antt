@@ -10,18 +10,9 @@ returns : tie.Need-returns
 returns c =
     let a = c .before .before .before .args in text-no-room (a .dst .now) (a .at) (a .bytes .now) (omega arith)
 
-sub-if2 : tie.Need-sub-if2
-sub-if2 c = search needs
-
 returns-2 : tie.Need-returns-2
 returns-2 c =
     let a = c .before .before .before .before .args in text-no-room (a .dst .now) (a .at) (a .bytes .now) (omega arith)
-
-lay-text-requires : tie.Need-lay-text-requires
-lay-text-requires c κs = search needs
-
-same-length : tie.Need-same-length
-same-length c = search needs
 
 returns-3 : tie.Need-returns-3
 returns-3 c =
@@ -31,4 +22,4 @@ returns-3 c =
 
 pub put-text-spec : {M : Type 1} → statement M
 put-text-spec =
-    tie.close (tie.spec returns sub-if2 returns-2 lay-text-requires same-length returns-3)
+    tie.close (tie.spec returns (λ c. search needs) returns-2 (λ c κs. search needs) (λ c. search needs) returns-3)

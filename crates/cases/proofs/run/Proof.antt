@@ -15,53 +15,8 @@ Inv-loop text₀ record₀ s₀ t₀ counter₀ text «record» s t counter = (c
 abbrev μ-loop : tie.MeasureT-loop
 μ-loop text₀ record₀ s₀ t₀ counter₀ text «record» s t counter = 1000000 - counter
 
-start-requires : tie.Need-start-requires Inv-loop μ-loop
-start-requires c κs = search needs
-
-loop-holds : tie.Need-loop-holds Inv-loop μ-loop
-loop-holds c = search needs
-
-next-requires : tie.Need-next-requires Inv-loop μ-loop
-next-requires c κs = search needs
-
-same-length : tie.Need-same-length Inv-loop μ-loop
-same-length c = search needs
-
-same-length-2 : tie.Need-same-length-2 Inv-loop μ-loop
-same-length-2 c = search needs
-
-returns : tie.Need-returns Inv-loop μ-loop
-returns c = search needs
-
-slice-reshare-prefix-agrees : tie.Need-slice-reshare-prefix-agrees Inv-loop μ-loop
-slice-reshare-prefix-agrees c = search needs
-
 slice-aggregate-agrees : tie.Need-slice-aggregate-agrees Inv-loop μ-loop
 slice-aggregate-agrees c = sym (length-take-le _ _ (omega arith))
-
-agrees-requires : tie.Need-agrees-requires Inv-loop μ-loop
-agrees-requires c κs = search needs
-
-judged-requires : tie.Need-judged-requires Inv-loop μ-loop
-judged-requires c κs = search needs
-
-add-counter : tie.Need-add-counter Inv-loop μ-loop
-add-counter c = search needs
-
-loop-less : tie.Need-loop-less Inv-loop μ-loop
-loop-less c = search needs
-
-loop-again : tie.Need-loop-again Inv-loop μ-loop
-loop-again c = search needs
-
-same-length-3 : tie.Need-same-length-3 Inv-loop μ-loop
-same-length-3 c = search needs
-
-same-length-4 : tie.Need-same-length-4 Inv-loop μ-loop
-same-length-4 c = search needs
-
-returns-2 : tie.Need-returns-2 Inv-loop μ-loop
-returns-2 c = search needs
 
 pub run-spec : {M : Type 1} → statement M
 run-spec =
@@ -69,19 +24,19 @@ run-spec =
     (tie.spec
     Inv-loop
     μ-loop
-    start-requires
-    loop-holds
-    next-requires
-    same-length
-    same-length-2
-    returns
-    slice-reshare-prefix-agrees
+    (λ c κs. search needs)
+    (λ c. search needs)
+    (λ c κs. search needs)
+    (λ c. search needs)
+    (λ c. search needs)
+    (λ c. search needs)
+    (λ c. search needs)
     slice-aggregate-agrees
-    agrees-requires
-    judged-requires
-    add-counter
-    loop-less
-    loop-again
-    same-length-3
-    same-length-4
-    returns-2)
+    (λ c κs. search needs)
+    (λ c κs. search needs)
+    (λ c. search needs)
+    (λ c. search needs)
+    (λ c. search needs)
+    (λ c. search needs)
+    (λ c. search needs)
+    (λ c. search needs))

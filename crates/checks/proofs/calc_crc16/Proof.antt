@@ -9,21 +9,6 @@ use Rattle.checks.proofs.FourLaws.{crc-whole}
 use Rattle.checks.proofs.calc_crc16.Statement.{statement}
 use Rattle.checks.proofs.calc_crc16.Tie as tie
 
-least-requires : tie.Need-least-requires
-least-requires c κs = search needs
-
-crc-fours-requires : tie.Need-crc-fours-requires
-crc-fours-requires c κs = search needs
-
-crc-pair-requires : tie.Need-crc-pair-requires
-crc-pair-requires c κs = search needs
-
-crc-last-requires : tie.Need-crc-last-requires
-crc-last-requires c κs = search needs
-
-cast-result : tie.Need-cast-result
-cast-result c = search needs
-
 returns : tie.Need-returns
 returns c =
     let p = c .before .before .before in
@@ -36,9 +21,9 @@ pub calc-crc16-spec : {M : Type 1} → statement M
 calc-crc16-spec =
     tie.close
     (tie.spec
-    least-requires
-    crc-fours-requires
-    crc-pair-requires
-    crc-last-requires
-    cast-result
+    (λ c κs. search needs)
+    (λ c κs. search needs)
+    (λ c κs. search needs)
+    (λ c κs. search needs)
+    (λ c. search needs)
     returns)

@@ -8,9 +8,6 @@ use Rattle.modbus.proofs.HexLaws.{undigit-figure, undigit-letter, undigit-none}
 use Rattle.checks.proofs.chr_to_hex.Statement.{statement}
 use Rattle.checks.proofs.chr_to_hex.Tie as tie
 
-sub-t5 : tie.Need-sub-t5
-sub-t5 c = search needs
-
 returns : tie.Need-returns
 returns c = sym (ap told (undigit-figure _ (omega arith) (omega arith)))
 
@@ -27,4 +24,4 @@ returns-5 : tie.Need-returns-5
 returns-5 c = sym (ap told (undigit-none _ (λ h. omega arith) (λ h. omega arith)))
 
 pub chr-to-hex-spec : {M : Type 1} → statement M
-chr-to-hex-spec = tie.close (tie.spec sub-t5 returns returns-2 returns-3 returns-4 returns-5)
+chr-to-hex-spec = tie.close (tie.spec (λ c. search needs) returns returns-2 returns-3 returns-4 returns-5)

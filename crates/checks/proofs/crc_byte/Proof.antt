@@ -19,9 +19,6 @@ loop-holds : tie.Need-loop-holds Inv-loop μ-loop
 unfolding crcByte
 loop-holds c = (omega arith, refl)
 
-crc-shift-requires : tie.Need-crc-shift-requires Inv-loop μ-loop
-crc-shift-requires c κs = search needs
-
 add-counter : tie.Need-add-counter Inv-loop μ-loop
 add-counter c = omega arith
 
@@ -37,4 +34,4 @@ returns c = shifts-done 8 _ _ _ (c .before .loop .inv .1) (omega arith)
 pub crc-byte-spec : {M : Type 1} → statement M
 crc-byte-spec =
     tie.close
-    (tie.spec Inv-loop μ-loop loop-holds crc-shift-requires add-counter loop-less loop-again returns)
+    (tie.spec Inv-loop μ-loop loop-holds (λ c κs. search needs) add-counter loop-less loop-again returns)

@@ -40,9 +40,6 @@ loop-holds c =
     let a = c .args in
     (omega arith, four-out (a .crc) (a .first) (a .second) (a .third) (a .fourth) (omega arith) (omega arith) (omega arith))
 
-crc-shift-requires : tie.Need-crc-shift-requires Inv-loop μ-loop
-crc-shift-requires c κs = search needs
-
 add-counter : tie.Need-add-counter Inv-loop μ-loop
 add-counter c = omega arith
 
@@ -68,7 +65,7 @@ crc-four-spec =
     mul-c
     add-c
     loop-holds
-    crc-shift-requires
+    (λ c κs. search needs)
     add-counter
     loop-less
     loop-again

@@ -44,9 +44,6 @@ add-crc-four-3 c = omega arith
 shared-slice-read-crc-four-4 : tie.Need-shared-slice-read-crc-four-4 Inv-loop μ-loop
 shared-slice-read-crc-four-4 c = omega arith
 
-crc-four-requires : tie.Need-crc-four-requires Inv-loop μ-loop
-crc-four-requires c κs = search needs
-
 add-k : tie.Need-add-k Inv-loop μ-loop
 add-k c = omega arith
 
@@ -85,7 +82,7 @@ crc-fours-spec =
     shared-slice-read-crc-four-3
     add-crc-four-3
     shared-slice-read-crc-four-4
-    crc-four-requires
+    (λ c κs. search needs)
     add-k
     loop-less
     loop-again

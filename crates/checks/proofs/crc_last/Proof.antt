@@ -15,15 +15,6 @@ returns c =
     let a = c .before .before .args in
     crc-none (a .frame .now) (a .n) (2 * (a .n / 2)) (a .crc) (omega arith)
 
-sub-crc-byte : tie.Need-sub-crc-byte
-sub-crc-byte c = search needs
-
-shared-slice-read-crc-byte : tie.Need-shared-slice-read-crc-byte
-shared-slice-read-crc-byte c = search needs
-
-crc-byte-requires : tie.Need-crc-byte-requires
-crc-byte-requires c κs = search needs
-
 returns-2 : tie.Need-returns-2
 returns-2 c =
     let a = c .before .before .before .before .args in
@@ -34,4 +25,4 @@ returns-2 c =
 pub crc-last-spec : {M : Type 1} → statement M
 crc-last-spec =
     tie.close
-    (tie.spec returns sub-crc-byte shared-slice-read-crc-byte crc-byte-requires returns-2)
+    (tie.spec returns (λ c. search needs) (λ c. search needs) (λ c κs. search needs) returns-2)

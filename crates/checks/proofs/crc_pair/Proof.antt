@@ -14,21 +14,6 @@ returns c =
     let e : 4 * (a .n / 4) ≡ 2 * (a .n / 2) = omega arith in
     moved (a .frame .now) (a .n) _ _ _ _ e refl
 
-mul-i : tie.Need-mul-i
-mul-i c = search needs
-
-shared-slice-read-crc-two : tie.Need-shared-slice-read-crc-two
-shared-slice-read-crc-two c = search needs
-
-add-crc-two : tie.Need-add-crc-two
-add-crc-two c = search needs
-
-shared-slice-read-crc-two-2 : tie.Need-shared-slice-read-crc-two-2
-shared-slice-read-crc-two-2 c = search needs
-
-crc-two-requires : tie.Need-crc-two-requires
-crc-two-requires c κs = search needs
-
 returns-2 : tie.Need-returns-2
 returns-2 c =
     let a = c .before .before .before .before .before .args in
@@ -41,9 +26,9 @@ crc-pair-spec =
     tie.close
     (tie.spec
     returns
-    mul-i
-    shared-slice-read-crc-two
-    add-crc-two
-    shared-slice-read-crc-two-2
-    crc-two-requires
+    (λ c. search needs)
+    (λ c. search needs)
+    (λ c. search needs)
+    (λ c. search needs)
+    (λ c κs. search needs)
     returns-2)

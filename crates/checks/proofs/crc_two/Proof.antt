@@ -28,9 +28,6 @@ loop-holds c =
     let a = c .args in
     (omega arith, two-out (a .crc) (a .first) (a .second) (omega arith))
 
-crc-shift-requires : tie.Need-crc-shift-requires Inv-loop μ-loop
-crc-shift-requires c κs = search needs
-
 add-counter : tie.Need-add-counter Inv-loop μ-loop
 add-counter c = omega arith
 
@@ -52,7 +49,7 @@ crc-two-spec =
     mul-c
     add-c
     loop-holds
-    crc-shift-requires
+    (λ c κs. search needs)
     add-counter
     loop-less
     loop-again

@@ -10,12 +10,6 @@ use Rattle.modbus.proofs.HexLaws.{digit-low, digit-high, character-fits, charac
 use Rattle.checks.proofs.hex_to_chr.Statement.{statement}
 use Rattle.checks.proofs.hex_to_chr.Tie as tie
 
-add-t4 : tie.Need-add-t4
-add-t4 c = search needs
-
-add-t7 : tie.Need-add-t7
-add-t7 c = search needs
-
 fits : (n v : ℕ) → n ≤ 200 → v ≡ digit n → _≡_ {A = ℕ × ℕ} (0, v) (told (character n))
 fits n v h e = ap (λ (k : ℕ). (0, k)) e ∙ sym (ap told (character-fits n h))
 
@@ -29,4 +23,4 @@ returns-3 : tie.Need-returns-3
 returns-3 c = sym (ap told (character-none _ (omega arith)))
 
 pub hex-to-chr-spec : {M : Type 1} → statement M
-hex-to-chr-spec = tie.close (tie.spec add-t4 add-t7 returns returns-2 returns-3)
+hex-to-chr-spec = tie.close (tie.spec (λ c. search needs) (λ c. search needs) returns returns-2 returns-3)

@@ -6,15 +6,6 @@ use borrow.Author.Needs.{needs}
 use Rattle.dalonjang.proofs.dalonjang_generate_ascii_frame.Statement.{statement}
 use Rattle.dalonjang.proofs.dalonjang_generate_ascii_frame.Tie as tie
 
-generate-ascii-frame-requires : tie.Need-generate-ascii-frame-requires
-generate-ascii-frame-requires c κs = search needs
-
-size-answer-requires : tie.Need-size-answer-requires
-size-answer-requires c κs = search needs
-
-same-length : tie.Need-same-length
-same-length c = search needs
-
 returns : tie.Need-returns
 returns c =
     let called = c .before .before .before .generate-ascii-frame in
@@ -22,4 +13,4 @@ returns c =
 
 pub dalonjang-generate-ascii-frame-spec : {M : Type 1} → statement M
 dalonjang-generate-ascii-frame-spec =
-    tie.close (tie.spec generate-ascii-frame-requires size-answer-requires same-length returns)
+    tie.close (tie.spec (λ c κs. search needs) (λ c κs. search needs) (λ c. search needs) returns)

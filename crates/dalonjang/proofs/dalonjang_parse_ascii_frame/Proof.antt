@@ -6,15 +6,6 @@ use borrow.Author.Needs.{needs}
 use Rattle.dalonjang.proofs.dalonjang_parse_ascii_frame.Statement.{statement}
 use Rattle.dalonjang.proofs.dalonjang_parse_ascii_frame.Tie as tie
 
-parse-ascii-frame-requires : tie.Need-parse-ascii-frame-requires
-parse-ascii-frame-requires c κs = search needs
-
-byte-answer-requires : tie.Need-byte-answer-requires
-byte-answer-requires c κs = search needs
-
-same-length : tie.Need-same-length
-same-length c = search needs
-
 returns : tie.Need-returns
 returns c =
     let called = c .before .before .before .parse-ascii-frame in
@@ -22,4 +13,4 @@ returns c =
 
 pub dalonjang-parse-ascii-frame-spec : {M : Type 1} → statement M
 dalonjang-parse-ascii-frame-spec =
-    tie.close (tie.spec parse-ascii-frame-requires byte-answer-requires same-length returns)
+    tie.close (tie.spec (λ c κs. search needs) (λ c κs. search needs) (λ c. search needs) returns)

@@ -1,90 +1,87 @@
--- `driver::drive` meets its contract: one law for each refusal, and a call past them is received.
+-- `driver::drive` meets its contract: a bad setup, no room, a frame that is none, and a frame that is opened.
 -- Assumes nothing.
-use Prim.Native.Nat.{_≤_}
+use mathlib.Core.Path.{_≡_, ap, _∙_}
+use mathlib.Core.List.{List}
+use Prim.Native.Nat.{ℕ}
 use native.Mathlib.Omega.{arith}
-use lib.ListN.{length}
-use borrow.Author.Tests.{not-true, not-false}
-use Rattle.modbus.specs.Paper.{protoOf}
-use Rattle.modbus.specs.Setup.{roomFor}
-use Rattle.tables.specs.Lent.{lentOf}
-use Rattle.driver.proofs.DrivenLaws.{setup-holds, setup-fails, no-room}
+use lib.ListN.{getD}
 use borrow.Author.Needs.{needs}
+use Rattle.modbus.specs.Frame.{tagOf, startOf}
+use Rattle.modbus.specs.Paper.{protoOf}
+use Rattle.transports.proofs.AnswerLaws.{opened-body}
+use Rattle.driver.specs.declared.Driven.{Driven}
+use Rattle.driver.specs.Driven.{lentIn, leaving}
+use Rattle.driver.specs.Serving.{handled}
+use Rattle.driver.proofs.OpenLaws.{start-most, part-long, part-same, good-valid, valid-good, valid-sized}
+use Rattle.driver.proofs.CallLaws.{bad-called, roomless-called, unopened-called, opened-called}
 use Rattle.driver.proofs.drive.Statement.{statement}
 use Rattle.driver.proofs.drive.Tie as tie
 
-valid-requires : tie.Need-valid-requires
-valid-requires c κs = search needs
-
-same-length : tie.Need-same-length
-same-length c = search needs
-
-same-length-2 : tie.Need-same-length-2
-same-length-2 c = search needs
-
 returns : tie.Need-returns
 returns c =
-    let p₁ = c .before .before .before .before .before .before .before .before .before .before .before in
-    let a = p₁ .args in
-    let l = lentOf (a .coils .now) (a .coil-cells) (a .discretes .now) (a .discrete-cells) (a .holdings .now) (a .holding-cells) (a .inputs .now) (a .input-cells) in
-    setup-fails (a .transport) (a .unit) (a .list .now) l (a .frame .now) (a .reply .now) _ (c .before .valid .ensures) (not-true _ (c .if1 .taken))
-
-room-for-requires : tie.Need-room-for-requires
-room-for-requires c κs = search needs
-
-same-length-3 : tie.Need-same-length-3
-same-length-3 c = search needs
-
-same-length-4 : tie.Need-same-length-4
-same-length-4 c = search needs
+    let s = c .before .before .before .before .before .before .before .before .before .before in
+    let a = s .args in
+    let l = lentIn (a .setup) (a .coils .now) (a .discretes .now) (a .holdings .now) (a .inputs .now) in
+    ap (λ (d : Driven). leaving d (a .reply .now) (a .coils .now) (a .holdings .now)) (c .result .ensures)
+    ∙ bad-called (a .setup) (a .list .now) l (a .frame .now) (a .reply .now) (λ v. c .before .before .bad-setup .ensures .0 (c .before .if1 .taken) (valid-good (a .setup) (a .list .now) (a .coils .now) (a .discretes .now) (a .holdings .now) (a .inputs .now) (a .reply .now) v))
 
 returns-2 : tie.Need-returns-2
 returns-2 c =
-    let p₁ = c .before .before .before in
-    let p₂ = p₁ .before .before .before .before .before .before .before .before .before .before in
-    let a = p₂ .args in
-    let l = lentOf (a .coils .now) (a .coil-cells) (a .discretes .now) (a .discrete-cells) (a .holdings .now) (a .holding-cells) (a .inputs .now) (a .input-cells) in
-    let v = setup-holds (a .transport) (a .unit) (a .list .now) l (a .frame .now) (a .reply .now) _ (p₁ .valid .ensures) (not-false _ (c .before .before .if1 .left)) in
-    no-room (a .transport) (a .unit) (a .list .now) l (a .frame .now) (a .reply .now) v (λ h. omega (arith, c .before .room-for .ensures, c .if2 .taken))
-
-receive-requires : tie.Need-receive-requires
-receive-requires c κs =
-    let p₁ = c .before .before .before in
-    let p₂ = p₁ .before in
-    let p₃ = p₂ .before in
-    let p₄ = p₃ .before in
-    let p₅ = p₄ .before .before .before .before .before .before .before .before .before .before in
-    let a = p₅ .args in
-    let l = lentOf (a .coils .now) (a .coil-cells) (a .discretes .now) (a .discrete-cells) (a .holdings .now) (a .holding-cells) (a .inputs .now) (a .input-cells) in
-    let v = setup-holds (a .transport) (a .unit) (a .list .now) l (a .frame .now) (a .reply .now) _ (p₄ .valid .ensures) (not-false _ (p₃ .if1 .left)) in
-    let r : roomFor (protoOf (a .transport)) ≤ length (a .reply .now) = omega (arith, p₂ .room-for .ensures, p₁ .if2 .left) in
-    (v, r)
-
-same-length-5 : tie.Need-same-length-5
-same-length-5 c = search needs
-
-same-length-6 : tie.Need-same-length-6
-same-length-6 c = search needs
-
-same-length-7 : tie.Need-same-length-7
-same-length-7 c = search needs
+    let s = c .before .before .before .before .before .before .before .before .before .before .before .before in
+    let a = s .args in
+    let l = lentIn (a .setup) (a .coils .now) (a .discretes .now) (a .holdings .now) (a .inputs .now) in
+    let v = good-valid (a .setup) (a .list .now) (a .coils .now) (a .discretes .now) (a .holdings .now) (a .inputs .now) (a .reply .now) (c .before .before .before .before .bad-setup .ensures .1 (c .before .before .before .if1 .left)) in
+    ap (λ (d : Driven). leaving d (a .reply .now) (a .coils .now) (a .holdings .now)) (c .result2 .ensures) ∙ roomless-called (a .setup) (a .list .now) l (a .frame .now) (a .reply .now) v (c .before .before .no-room .ensures .0 (c .before .if2 .taken))
 
 returns-3 : tie.Need-returns-3
-returns-3 c = search needs
+returns-3 c =
+    let s = c .before .before .before .before .before .before .before .before .before .before .before .before .before .before .before in
+    let a = s .args in
+    let l = lentIn (a .setup) (a .coils .now) (a .discretes .now) (a .holdings .now) (a .inputs .now) in
+    let v = good-valid (a .setup) (a .list .now) (a .coils .now) (a .discretes .now) (a .holdings .now) (a .inputs .now) (a .reply .now) (c .before .before .before .before .before .before .before .bad-setup .ensures .1 (c .before .before .before .before .before .before .if1 .left)) in
+    let r = c .before .before .before .before .before .no-room .ensures .1 (c .before .before .before .before .if2 .left) in
+    ap (λ (d : Driven). leaving d (a .reply .now) (a .coils .now) (a .holdings .now)) (c .result3 .ensures) ∙ unopened-called (a .setup) (a .list .now) l (a .frame .now) (a .reply .now) v r _ (c .before .before .«open» .ensures .0) (c .before .if3 .taken)
+
+add-end : tie.Need-add-end
+add-end c =
+    let a = c .before .before .before .before .before .before .before .before .before .before .before .before .before .before .before .args in
+    let o = c .before .before .«open» in
+    let b = opened-body (protoOf (a .setup .transport)) (a .frame .now) (o .result) (o .ensures .0) _ (o .ensures .1 .0) (o .ensures .1 .1) (omega (arith, c .before .if3 .left)) in
+    record { fits = omega (arith, b .4, start-most (a .setup .transport), c .start-of .ensures) }
+
+part-handle-end : tie.Need-part-handle-end
+part-handle-end c =
+    let a = c .before .before .before .before .before .before .before .before .before .before .before .before .before .before .before .before .before .args in
+    let o = c .before .before .before .before .«open» in
+    let b = opened-body (protoOf (a .setup .transport)) (a .frame .now) (o .result) (o .ensures .0) _ (o .ensures .1 .0) (o .ensures .1 .1) (omega (arith, c .before .before .before .if3 .left)) in
+    rw (c .body-source .ensures, c .before .before .start-of .ensures) (b .2)
+
+handle-requires : tie.Need-handle-requires
+handle-requires c κs =
+    let s = c .before .before .before .before .before .before .before .before .before .before .before .before .before .before .before .before .before .before .before .before .before in
+    let a = s .args in
+    let l = lentIn (a .setup) (a .coils .now) (a .discretes .now) (a .holdings .now) (a .inputs .now) in
+    let v = good-valid (a .setup) (a .list .now) (a .coils .now) (a .discretes .now) (a .holdings .now) (a .inputs .now) (a .reply .now) (c .before .before .before .before .before .before .before .before .before .before .before .before .before .bad-setup .ensures .1 (c .before .before .before .before .before .before .before .before .before .before .before .before .if1 .left)) in
+    let o = c .before .before .before .before .before .before .before .before .«open» in
+    let b = opened-body (protoOf (a .setup .transport)) (a .frame .now) (o .result) (o .ensures .0) _ (o .ensures .1 .0) (o .ensures .1 .1) (omega (arith, c .before .before .before .before .before .before .before .if3 .left)) in
+    let e = c .before .before .before .before .before .before .start-of .ensures in
+    ((part-long _ _ _ (b .1) (rw (c .before .before .before .before .body-source .ensures, e) (b .2)), e, c .before .before .before .before .before .before .before .before .before .before .before .no-room .ensures .1 (c .before .before .before .before .before .before .before .before .before .before .if2 .left), b .3), valid-sized (a .setup) (a .list .now) (a .coils .now) (a .discretes .now) (a .holdings .now) (a .inputs .now) (a .reply .now) v)
+
+returns-4 : tie.Need-returns-4
+returns-4 c =
+    let s = c .before .before .before .before .before .before .before .before .before .before .before .before .before .before .before .before .before .before .before .before .before .before .before .before .before .before .before .before in
+    let a = s .args in
+    let l = lentIn (a .setup) (a .coils .now) (a .discretes .now) (a .holdings .now) (a .inputs .now) in
+    let v = good-valid (a .setup) (a .list .now) (a .coils .now) (a .discretes .now) (a .holdings .now) (a .inputs .now) (a .reply .now) (c .before .before .before .before .before .before .before .before .before .before .before .before .before .before .before .before .before .before .before .before .bad-setup .ensures .1 (c .before .before .before .before .before .before .before .before .before .before .before .before .before .before .before .before .before .before .before .if1 .left)) in
+    let r = c .before .before .before .before .before .before .before .before .before .before .before .before .before .before .before .before .before .before .no-room .ensures .1 (c .before .before .before .before .before .before .before .before .before .before .before .before .before .before .before .before .before .if2 .left) in
+    let o = c .before .before .before .before .before .before .before .before .before .before .before .before .before .before .before .«open» in
+    let b = opened-body (protoOf (a .setup .transport)) (a .frame .now) (o .result) (o .ensures .0) _ (o .ensures .1 .0) (o .ensures .1 .1) (omega (arith, c .before .before .before .before .before .before .before .before .before .before .before .before .before .before .if3 .left)) in
+    let p = protoOf (a .setup .transport) in
+    let tag = tagOf p (getD (a .frame .now) 0 0) (getD (a .frame .now) 1 0) in
+    c .before .before .before .before .before .before .handle .ensures
+    ∙ ap (λ (x : List ℕ). handled (a .setup) (a .list .now) tag x l (a .reply .now))
+    (part-same _ (o .result) (startOf p) _ _ (c .before .before .before .before .before .before .before .before .before .before .before .before .before .start-of .ensures) (c .before .before .before .before .before .before .before .before .before .before .before .body-source .ensures))
+    ∙ opened-called (a .setup) (a .list .now) l (a .frame .now) (a .reply .now) v r tag _ (b .0)
 
 pub drive-spec : {M : Type 1} → statement M
-drive-spec =
-    tie.close
-    (tie.spec
-    valid-requires
-    same-length
-    same-length-2
-    returns
-    room-for-requires
-    same-length-3
-    same-length-4
-    returns-2
-    receive-requires
-    same-length-5
-    same-length-6
-    same-length-7
-    returns-3)
+drive-spec = tie.close (tie.spec (λ c κs. search needs) (λ c κs. search needs) returns (λ c κs. search needs) (λ c κs. search needs) returns-2 (λ c κs. search needs) (λ c. search needs) (λ c. search needs) (λ c κs. search needs) returns-3 (λ c κs. search needs) add-end (λ c. search needs) (λ c κs. search needs) (λ c. search needs) (λ c. search needs) part-handle-end handle-requires (λ c. search needs) (λ c. search needs) (λ c. search needs) returns-4)

@@ -3,33 +3,18 @@
 use mathlib.Core.Path.{sym, _∙_}
 use native.Mathlib.Omega.{arith}
 use borrow.Author.Needs.{needs}
-use Rattle.external.proofs.ExternalLaws.{unset-exceeds, unset-none, unset-coded}
+use Rattle.external.proofs.ErrorLaws.{unset-exceeds, unset-none, unset-coded}
 use Rattle.frame.proofs.StateLaws.{left}
 use Rattle.external.proofs.set_modbus_error_if_unset.Statement.{statement}
 use Rattle.external.proofs.set_modbus_error_if_unset.Tie as tie
 
-refused-requires : tie.Need-refused-requires
-refused-requires c κs = search needs
-
 returns : tie.Need-returns
 returns c = left _ (c .refused .ensures) ∙ sym (unset-exceeds _ _ _ (omega arith))
-
-code-of-requires : tie.Need-code-of-requires
-code-of-requires c κs = search needs
-
-done-requires : tie.Need-done-requires
-done-requires c κs = search needs
 
 returns-2 : tie.Need-returns-2
 returns-2 c =
     left _ (c .done .ensures)
     ∙ sym (unset-none _ _ _ (omega arith) _ (c .before .before .code-of .ensures) (c .before .if2 .taken))
-
-set-code-requires : tie.Need-set-code-requires
-set-code-requires c κs = search needs
-
-same-length : tie.Need-same-length
-same-length c = search needs
 
 returns-3 : tie.Need-returns-3
 returns-3 c =
@@ -41,11 +26,11 @@ pub set-modbus-error-if-unset-spec : {M : Type 1} → statement M
 set-modbus-error-if-unset-spec =
     tie.close
     (tie.spec
-    refused-requires
+    (λ c κs. search needs)
     returns
-    code-of-requires
-    done-requires
+    (λ c κs. search needs)
+    (λ c κs. search needs)
     returns-2
-    set-code-requires
-    same-length
+    (λ c κs. search needs)
+    (λ c. search needs)
     returns-3)

@@ -2,8 +2,8 @@
 -- Assumes nothing.
 use mathlib.Core.Path.{sym}
 use Rattle.modbus.specs.Table.{coils, discretes, holdings, inputs, bit, word}
-use Rattle.modbus.specs.Request.{reads, one, many}
-use Rattle.modbus.proofs.DriveLaws.{none}
+use Rattle.modbus.specs.Ported.{reads, one, many}
+use Rattle.modbus.proofs.FindLaws.{none-ported}
 use Rattle.frame.proofs.StateLaws.{function-known, function-none}
 use Rattle.frame.proofs.function_of.Statement.{statement}
 use Rattle.frame.proofs.function_of.Tie as tie
@@ -37,7 +37,7 @@ returns-9 c =
     let r = c .match .rest in
     let q = r .0 .0 .0 .0 in
     let s = r .0 .0 in
-    sym (function-none _ (none _ (q .0 .0 .0 .1) (q .0 .0 .1) (q .0 .1) (q .1) (s .0 .1) (s .1) (r .0 .1) (r .1)))
+    sym (function-none _ (none-ported _ (q .0 .0 .0 .1) (q .0 .0 .1) (q .0 .1) (q .1) (s .0 .1) (s .1) (r .0 .1) (r .1)))
 
 pub function-of-spec : {M : Type 1} → statement M
 function-of-spec =

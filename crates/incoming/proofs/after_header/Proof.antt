@@ -4,21 +4,15 @@ use mathlib.Core.Path.{sym, ap}
 use native.Mathlib.Omega.{arith}
 use borrow.Author.Needs.{needs}
 use Rattle.modbus.specs.Paper.{told}
-use Rattle.incoming.proofs.RequestLaws.{header-short, header-foreign, header-length, tcp-begins}
+use Rattle.incoming.proofs.EnvelopeLaws.{header-short, header-foreign, header-length, tcp-begins}
 use Rattle.incoming.proofs.after_header.Statement.{statement}
 use Rattle.incoming.proofs.after_header.Tie as tie
 
 returns : tie.Need-returns
 returns c = sym (ap told (header-short _ _ (omega arith)))
 
-word-requires : tie.Need-word-requires
-word-requires c κs = search needs
-
 returns-2 : tie.Need-returns-2
 returns-2 c = sym (ap told (header-foreign _ _ (omega arith) (rw (c .before .word .ensures) at (c .if2 .taken))))
-
-word-requires-2 : tie.Need-word-requires-2
-word-requires-2 c κs = search needs
 
 returns-3 : tie.Need-returns-3
 returns-3 c = sym (ap told (header-length _ _ (omega arith) (cc) (λ h. omega arith)))
@@ -32,4 +26,4 @@ returns-5 c = sym (ap told (tcp-begins _ _ (omega arith) (cc) (omega arith) (ome
 pub after-header-spec : {M : Type 1} → statement M
 after-header-spec =
     tie.close
-    (tie.spec returns word-requires returns-2 word-requires-2 returns-3 returns-4 returns-5)
+    (tie.spec returns (λ c κs. search needs) returns-2 (λ c κs. search needs) returns-3 returns-4 returns-5)

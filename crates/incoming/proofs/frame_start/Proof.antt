@@ -3,21 +3,9 @@
 use mathlib.Core.Path.{sym, ap, _∙_}
 use borrow.Author.Needs.{needs}
 use Rattle.modbus.specs.Paper.{told}
-use Rattle.incoming.proofs.RequestLaws.{rtu-begins, ascii-begins, tcp-anywhere}
+use Rattle.incoming.proofs.EnvelopeLaws.{rtu-begins, ascii-begins, tcp-anywhere}
 use Rattle.incoming.proofs.frame_start.Statement.{statement}
 use Rattle.incoming.proofs.frame_start.Tie as tie
-
-enum-told : tie.Need-enum-told
-enum-told c = search needs
-
-enum-told-2 : tie.Need-enum-told-2
-enum-told-2 c = search needs
-
-enum-told-3 : tie.Need-enum-told-3
-enum-told-3 c = search needs
-
-after-header-requires : tie.Need-after-header-requires
-after-header-requires c κs = search needs
 
 returns : tie.Need-returns
 returns c = rw (c .enum-told .given .1) (sym (ap told (rtu-begins _ _)))
@@ -31,4 +19,4 @@ returns-3 c = rw (c .before .enum-told3 .given .1) (c .after-header .ensures ∙
 pub frame-start-spec : {M : Type 1} → statement M
 frame-start-spec =
     tie.close
-    (tie.spec enum-told enum-told-2 enum-told-3 after-header-requires returns returns-2 returns-3)
+    (tie.spec (λ c. search needs) (λ c. search needs) (λ c. search needs) (λ c κs. search needs) returns returns-2 returns-3)

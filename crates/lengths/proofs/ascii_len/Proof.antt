@@ -8,27 +8,6 @@ use Rattle.lengths.proofs.GuessLaws.{ascii-told, ascii-halt}
 use Rattle.lengths.proofs.ascii_len.Statement.{statement}
 use Rattle.lengths.proofs.ascii_len.Tie as tie
 
-slice-aggregate-parse-ascii-frame : tie.Need-slice-aggregate-parse-ascii-frame
-slice-aggregate-parse-ascii-frame c = search needs
-
-parse-ascii-frame-requires : tie.Need-parse-ascii-frame-requires
-parse-ascii-frame-requires c κs = search needs
-
-enum-known-parsed : tie.Need-enum-known-parsed
-enum-known-parsed c = search needs
-
-slice-aggregate-serial-len : tie.Need-slice-aggregate-serial-len
-slice-aggregate-serial-len c = search needs
-
-cast-serial-len : tie.Need-cast-serial-len
-cast-serial-len c = search needs
-
-serial-len-requires : tie.Need-serial-len-requires
-serial-len-requires c κs = search needs
-
-enum-known-parsed-2 : tie.Need-enum-known-parsed-2
-enum-known-parsed-2 c = search needs
-
 returns : tie.Need-returns
 returns c =
     let m = c .before .before .before in
@@ -47,12 +26,12 @@ pub ascii-len-spec : {M : Type 1} → statement M
 ascii-len-spec =
     tie.close
     (tie.spec
-    slice-aggregate-parse-ascii-frame
-    parse-ascii-frame-requires
-    enum-known-parsed
-    slice-aggregate-serial-len
-    cast-serial-len
-    serial-len-requires
-    enum-known-parsed-2
+    (λ c. search needs)
+    (λ c κs. search needs)
+    (λ c. search needs)
+    (λ c. search needs)
+    (λ c. search needs)
+    (λ c κs. search needs)
+    (λ c. search needs)
     returns
     returns-2)

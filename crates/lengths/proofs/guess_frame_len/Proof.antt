@@ -6,24 +6,6 @@ use borrow.Author.Needs.{needs}
 use Rattle.lengths.proofs.guess_frame_len.Statement.{statement}
 use Rattle.lengths.proofs.guess_frame_len.Tie as tie
 
-enum-told : tie.Need-enum-told
-enum-told c = search needs
-
-serial-len-requires : tie.Need-serial-len-requires
-serial-len-requires c κs = search needs
-
-enum-told-2 : tie.Need-enum-told-2
-enum-told-2 c = search needs
-
-ascii-len-requires : tie.Need-ascii-len-requires
-ascii-len-requires c κs = search needs
-
-enum-told-3 : tie.Need-enum-told-3
-enum-told-3 c = search needs
-
-tcp-len-requires : tie.Need-tcp-len-requires
-tcp-len-requires c κs = search needs
-
 returns : tie.Need-returns
 unfolding guess
 returns c = rw (c .before .enum-told .given .1) (rw take-length at (c .serial-len .ensures))
@@ -38,12 +20,12 @@ pub guess-frame-len-spec : {M : Type 1} → statement M
 guess-frame-len-spec =
     tie.close
     (tie.spec
-    enum-told
-    serial-len-requires
-    enum-told-2
-    ascii-len-requires
-    enum-told-3
-    tcp-len-requires
+    (λ c. search needs)
+    (λ c κs. search needs)
+    (λ c. search needs)
+    (λ c κs. search needs)
+    (λ c. search needs)
+    (λ c κs. search needs)
     returns
     returns-2
     returns-3)

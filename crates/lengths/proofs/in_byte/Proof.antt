@@ -11,11 +11,8 @@ use Rattle.lengths.proofs.in_byte.Tie as tie
 returns : tie.Need-returns
 returns c = sym (ap told (byte-none _ (omega arith)))
 
-cast-t4 : tie.Need-cast-t4
-cast-t4 c = search needs
-
 returns-2 : tie.Need-returns-2
 returns-2 c = sym (ap told (byte-fits _ (omega arith)))
 
 pub in-byte-spec : {M : Type 1} → statement M
-in-byte-spec = tie.close (tie.spec returns cast-t4 returns-2)
+in-byte-spec = tie.close (tie.spec returns (λ c. search needs) returns-2)

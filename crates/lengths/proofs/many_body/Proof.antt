@@ -12,9 +12,6 @@ use Rattle.lengths.proofs.many_body.Tie as tie
 returns : tie.Need-returns
 returns c = sym (ap told (request-short _ (c .before .pre) (omega arith)))
 
-shared-slice-read-t6 : tie.Need-shared-slice-read-t6
-shared-slice-read-t6 c = search needs
-
 cast-t2 : tie.Need-cast-t2
 cast-t2 c = fits-8-64 (c .shared-slice-known .given _)
 
@@ -25,4 +22,4 @@ returns-2 : tie.Need-returns-2
 returns-2 c = sym (ap told (request-many _ (c .before .before .pre) (omega arith)))
 
 pub many-body-spec : {M : Type 1} → statement M
-many-body-spec = tie.close (tie.spec returns shared-slice-read-t6 cast-t2 add-t7 returns-2)
+many-body-spec = tie.close (tie.spec returns (λ c. search needs) cast-t2 add-t7 returns-2)

@@ -8,9 +8,6 @@ use Rattle.lengths.proofs.GuessLaws.{request-other}
 use Rattle.lengths.proofs.request_body.Statement.{statement}
 use Rattle.lengths.proofs.request_body.Tie as tie
 
-shared-slice-read-match : tie.Need-shared-slice-read-match
-shared-slice-read-match c = search needs
-
 many-body-requires : tie.Need-many-body-requires
 many-body-requires c κs = inl (c .match .keys1)
 
@@ -29,4 +26,4 @@ returns-3 c = sym (ap told (request-other _ (c .match .rest .0 .1) (c .match .re
 pub request-body-spec : {M : Type 1} → statement M
 request-body-spec =
     tie.close
-    (tie.spec shared-slice-read-match many-body-requires many-body-requires-2 returns returns-2 returns-3)
+    (tie.spec (λ c. search needs) many-body-requires many-body-requires-2 returns returns-2 returns-3)

@@ -10,20 +10,11 @@ use Rattle.lengths.proofs.GuessLaws.{response-exception, response-short
 use Rattle.lengths.proofs.response_body.Statement.{statement}
 use Rattle.lengths.proofs.response_body.Tie as tie
 
-shared-slice-read-if1 : tie.Need-shared-slice-read-if1
-shared-slice-read-if1 c = search needs
-
 returns : tie.Need-returns
 returns c = sym (ap told (response-exception _ (c .if1 .taken)))
 
 returns-2 : tie.Need-returns-2
 returns-2 c = sym (ap told (response-short _ (omega arith) (omega arith)))
-
-shared-slice-read-match : tie.Need-shared-slice-read-match
-shared-slice-read-match c = search needs
-
-shared-slice-read-t12 : tie.Need-shared-slice-read-t12
-shared-slice-read-t12 c = search needs
 
 cast-t13 : tie.Need-cast-t13
 cast-t13 c = fits-8-64 (c .shared-slice-known3 .given _)
@@ -60,11 +51,11 @@ pub response-body-spec : {M : Type 1} → statement M
 response-body-spec =
     tie.close
     (tie.spec
-    shared-slice-read-if1
+    (λ c. search needs)
     returns
     returns-2
-    shared-slice-read-match
-    shared-slice-read-t12
+    (λ c. search needs)
+    (λ c. search needs)
     cast-t13
     add-t14
     returns-3

@@ -21,9 +21,6 @@ slice-aggregate-body-len c = sym (length-take-le _ _ (omega arith))
 body-len-requires : tie.Need-body-len-requires
 body-len-requires c κs = simp length-take (omega arith)
 
-enum-known-body : tie.Need-enum-known-body
-enum-known-body c = search needs
-
 frame-len-requires : tie.Need-frame-len-requires
 frame-len-requires c κs =
     let l = c .before .before .before in
@@ -33,9 +30,6 @@ frame-len-requires c κs =
     let y = small-take (a .known) (a .b .now) (λ i. s .shared-slice-known .given i .fits) in
     let h = body-most (a .side) (take (a .known) (a .b .now)) _ y e in
     omega arith
-
-enum-known-body-2 : tie.Need-enum-known-body-2
-enum-known-body-2 c = search needs
 
 returns-2 : tie.Need-returns-2
 returns-2 c =
@@ -56,8 +50,8 @@ serial-len-spec =
     returns
     slice-aggregate-body-len
     body-len-requires
-    enum-known-body
+    (λ c. search needs)
     frame-len-requires
-    enum-known-body-2
+    (λ c. search needs)
     returns-2
     returns-3)

@@ -4,18 +4,6 @@ use borrow.Author.Needs.{needs}
 use Rattle.modbus.proofs.bit_answer.Statement.{statement}
 use Rattle.modbus.proofs.bit_answer.Tie as tie
 
-enum-known-answer : tie.Need-enum-known-answer
-enum-known-answer c = search needs
-
-bit-value-requires : tie.Need-bit-value-requires
-bit-value-requires c κs = search needs
-
-enum-known-answer-2 : tie.Need-enum-known-answer-2
-enum-known-answer-2 c = search needs
-
-refused-requires : tie.Need-refused-requires
-refused-requires c κs = search needs
-
 returns : tie.Need-returns
 returns c = cc
 
@@ -26,9 +14,9 @@ pub bit-answer-spec : {M : Type 1} → statement M
 bit-answer-spec =
     tie.close
     (tie.spec
-    enum-known-answer
-    bit-value-requires
-    enum-known-answer-2
-    refused-requires
+    (λ c. search needs)
+    (λ c κs. search needs)
+    (λ c. search needs)
+    (λ c κs. search needs)
     returns
     returns-2)

@@ -4,18 +4,6 @@ use borrow.Author.Needs.{needs}
 use Rattle.modbus.proofs.byte_answer.Statement.{statement}
 use Rattle.modbus.proofs.byte_answer.Tie as tie
 
-enum-known-answer : tie.Need-enum-known-answer
-enum-known-answer c = search needs
-
-cast-t5 : tie.Need-cast-t5
-cast-t5 c = search needs
-
-enum-known-answer-2 : tie.Need-enum-known-answer-2
-enum-known-answer-2 c = search needs
-
-refused-requires : tie.Need-refused-requires
-refused-requires c κs = search needs
-
 returns : tie.Need-returns
 returns c = cc
 
@@ -25,4 +13,4 @@ returns-2 c = cc
 pub byte-answer-spec : {M : Type 1} → statement M
 byte-answer-spec =
     tie.close
-    (tie.spec enum-known-answer cast-t5 enum-known-answer-2 refused-requires returns returns-2)
+    (tie.spec (λ c. search needs) (λ c. search needs) (λ c. search needs) (λ c κs. search needs) returns returns-2)

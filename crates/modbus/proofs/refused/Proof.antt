@@ -6,11 +6,8 @@ use borrow.Author.Needs.{needs}
 use Rattle.modbus.proofs.refused.Statement.{statement}
 use Rattle.modbus.proofs.refused.Tie as tie
 
-kind-number-requires : tie.Need-kind-number-requires
-kind-number-requires c κs = search needs
-
 returns : tie.Need-returns
 returns c = ap (λ (k : ℕ). (k, 0)) (c .kind-number .ensures)
 
 pub refused-spec : {M : Type 1} → statement M
-refused-spec = tie.close (tie.spec kind-number-requires returns)
+refused-spec = tie.close (tie.spec (λ c κs. search needs) returns)

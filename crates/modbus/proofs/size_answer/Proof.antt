@@ -4,15 +4,6 @@ use borrow.Author.Needs.{needs}
 use Rattle.modbus.proofs.size_answer.Statement.{statement}
 use Rattle.modbus.proofs.size_answer.Tie as tie
 
-enum-known-answer : tie.Need-enum-known-answer
-enum-known-answer c = search needs
-
-enum-known-answer-2 : tie.Need-enum-known-answer-2
-enum-known-answer-2 c = search needs
-
-refused-requires : tie.Need-refused-requires
-refused-requires c κs = search needs
-
 returns : tie.Need-returns
 returns c = cc
 
@@ -21,4 +12,4 @@ returns-2 c = cc
 
 pub size-answer-spec : {M : Type 1} → statement M
 size-answer-spec =
-    tie.close (tie.spec enum-known-answer enum-known-answer-2 refused-requires returns returns-2)
+    tie.close (tie.spec (λ c. search needs) (λ c. search needs) (λ c κs. search needs) returns returns-2)

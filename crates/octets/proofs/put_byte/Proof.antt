@@ -7,12 +7,6 @@ use borrow.Author.Needs.{needs}
 use Rattle.octets.proofs.put_byte.Statement.{statement}
 use Rattle.octets.proofs.put_byte.Tie as tie
 
-slice-write-dst : tie.Need-slice-write-dst
-slice-write-dst c = search needs
-
-same-length : tie.Need-same-length
-same-length c = search needs
-
 returns : tie.Need-returns
 returns c = ap₂ (λ b l. (b, l)) (sym (lt-ltb _ _ (c .if1 .taken))) refl
 
@@ -20,4 +14,4 @@ returns-2 : tie.Need-returns-2
 returns-2 c = ap₂ (λ b l. (b, l)) (sym (le-ltb _ _ (c .if1 .left))) (sym (set-out _ _ _ (c .if1 .left)))
 
 pub put-byte-spec : {M : Type 1} → statement M
-put-byte-spec = tie.close (tie.spec slice-write-dst same-length returns returns-2)
+put-byte-spec = tie.close (tie.spec (λ c. search needs) (λ c. search needs) returns returns-2)

@@ -24,27 +24,6 @@ inside s i high low e f = rw (e, f, add-one)
 returns : tie.Need-returns
 returns c = outside (c .before .before .args .s .now) _ (c .if1 .taken)
 
-byte-requires : tie.Need-byte-requires
-byte-requires c κs = search needs
-
-cast-high : tie.Need-cast-high
-cast-high c = search needs
-
-add-byte : tie.Need-add-byte
-add-byte c = search needs
-
-byte-requires-2 : tie.Need-byte-requires-2
-byte-requires-2 c κs = search needs
-
-cast-low : tie.Need-cast-low
-cast-low c = search needs
-
-mul-result : tie.Need-mul-result
-mul-result c = search needs
-
-add-result : tie.Need-add-result
-add-result c = search needs
-
 returns-2 : tie.Need-returns-2
 returns-2 c = inside (c .before .before .before .before .args .s .now) _ _ _ (c .before .byte .ensures) (c .byte2 .ensures)
 
@@ -53,11 +32,11 @@ word-spec =
     tie.close
     (tie.spec
     returns
-    byte-requires
-    cast-high
-    add-byte
-    byte-requires-2
-    cast-low
-    mul-result
-    add-result
+    (λ c κs. search needs)
+    (λ c. search needs)
+    (λ c. search needs)
+    (λ c κs. search needs)
+    (λ c. search needs)
+    (λ c. search needs)
+    (λ c. search needs)
     returns-2)

@@ -1,78 +1,34 @@
--- `outgoing::head` meets its contract: on a serial line there is no length field.
+-- `outgoing::head` meets its contract: the byte count is added where the rest was.
 -- Assumes nothing.
-use mathlib.Core.Path.{refl, sym, ap, _∙_}
-use native.Mathlib.Omega.{arith}
-use Rattle.modbus.specs.declared.ModbusProto.the-variants.{Rtu, Ascii}
-use Rattle.outgoing.specs.Grow.{grown}
-use Rattle.outgoing.proofs.WayLaws.{head-long, head-serial}
+use mathlib.Core.Path.{sym, ap, _∙_}
 use borrow.Author.Needs.{needs}
+use Rattle.outgoing.specs.Grow.{growth, byteCounted}
+use Rattle.outgoing.proofs.GrowLaws.{goes-on, ends-there}
 use Rattle.outgoing.proofs.head.Statement.{statement}
 use Rattle.outgoing.proofs.head.Tie as tie
 
-short-requires : tie.Need-short-requires
-short-requires c κs = search needs
-
 returns : tie.Need-returns
 returns c =
-    rw (c .short .ensures) (sym (ap grown (head-long _ _ _ _ _ _ (omega arith))))
-
-enum-told : tie.Need-enum-told
-enum-told c = search needs
-
-count-requires : tie.Need-count-requires
-count-requires c κs = search needs
-
-enum-told-2 : tie.Need-enum-told-2
-enum-told-2 c = search needs
-
-count-requires-2 : tie.Need-count-requires-2
-count-requires-2 c κs = search needs
-
-enum-told-3 : tie.Need-enum-told-3
-enum-told-3 c = search needs
-
-tcp-head-requires : tie.Need-tcp-head-requires
-tcp-head-requires c κs = search needs
-
-same-length : tie.Need-same-length
-same-length c = search needs
+    let b = c .before .before .before .before in
+    ends-there _ (byteCounted (b .before .before .before .before .args .bytes)) (b .begin .result) _ _ (b .begin .ensures) (c .enum-told .given .1)
 
 returns-2 : tie.Need-returns-2
 returns-2 c =
-    let e = c .before .before in
-    let p = e .before .before .enum-told .given .1 in
-    rw p (e .count .ensures ∙ sym (ap grown (head-serial _ _ _ _ _ Rtu refl (omega arith) (omega arith))))
-
-same-length-2 : tie.Need-same-length-2
-same-length-2 c = search needs
-
-returns-3 : tie.Need-returns-3
-returns-3 c =
-    let e = c .before .before in
-    let p = e .before .before .enum-told2 .given .1 in
-    rw p (e .count2 .ensures ∙ sym (ap grown (head-serial _ _ _ _ _ Ascii refl (omega arith) (omega arith))))
-
-same-length-3 : tie.Need-same-length-3
-same-length-3 c = search needs
-
-returns-4 : tie.Need-returns-4
-returns-4 c = rw (c .before .before .before .before .enum-told3 .given .1) (c .before .before .tcp-head .ensures)
+    let b = c .before .before .before .before .before .before .before .before in
+    c .before .before .byte-count .ensures
+    ∙ sym (ap growth (goes-on _ (byteCounted (b .before .before .before .before .args .bytes)) (b .begin .result) _ (b .begin .ensures)
+    (c .before .before .before .before .enum-told2 .given .1)))
 
 pub head-spec : {M : Type 1} → statement M
 head-spec =
     tie.close
     (tie.spec
-    short-requires
+    (λ c. search needs)
+    (λ c κs. search needs)
+    (λ c. search needs)
+    (λ c. search needs)
+    (λ c κs. search needs)
+    (λ c. search needs)
     returns
-    enum-told
-    count-requires
-    enum-told-2
-    count-requires-2
-    enum-told-3
-    tcp-head-requires
-    same-length
-    returns-2
-    same-length-2
-    returns-3
-    same-length-3
-    returns-4)
+    (λ c. search needs)
+    returns-2)

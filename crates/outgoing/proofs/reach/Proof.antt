@@ -8,14 +8,8 @@ use Rattle.outgoing.proofs.WayLaws.{reached-far, reached-beyond, reache
 use Rattle.outgoing.proofs.reach.Statement.{statement}
 use Rattle.outgoing.proofs.reach.Tie as tie
 
-sub-if1 : tie.Need-sub-if1
-sub-if1 c = search needs
-
 returns : tie.Need-returns
 returns c = sym (ap told (reached-far _ _ _ (omega arith)))
-
-add-if2 : tie.Need-add-if2
-add-if2 c = search needs
 
 returns-2 : tie.Need-returns-2
 returns-2 c = sym (ap told (reached-beyond _ _ _ (omega arith) (omega arith)))
@@ -24,4 +18,4 @@ returns-3 : tie.Need-returns-3
 returns-3 c = sym (ap told (reached-all _ _ _ (omega arith) (omega arith)))
 
 pub reach-spec : {M : Type 1} → statement M
-reach-spec = tie.close (tie.spec sub-if1 returns add-if2 returns-2 returns-3)
+reach-spec = tie.close (tie.spec (λ c. search needs) returns (λ c. search needs) returns-2 returns-3)

@@ -5,14 +5,8 @@ use borrow.Author.Needs.{needs}
 use Rattle.probe.proofs.probe_calc_lrc.Statement.{statement}
 use Rattle.probe.proofs.probe_calc_lrc.Tie as tie
 
-calc-lrc-requires : tie.Need-calc-lrc-requires
-calc-lrc-requires c κs = search needs
-
-byte-answer-requires : tie.Need-byte-answer-requires
-byte-answer-requires c κs = search needs
-
 returns : tie.Need-returns
 returns c = c .byte-answer .ensures ∙ c .before .calc-lrc .ensures
 
 pub probe-calc-lrc-spec : {M : Type 1} → statement M
-probe-calc-lrc-spec = tie.close (tie.spec calc-lrc-requires byte-answer-requires returns)
+probe-calc-lrc-spec = tie.close (tie.spec (λ c κs. search needs) (λ c κs. search needs) returns)

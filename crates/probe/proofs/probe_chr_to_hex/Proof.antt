@@ -5,14 +5,8 @@ use borrow.Author.Needs.{needs}
 use Rattle.probe.proofs.probe_chr_to_hex.Statement.{statement}
 use Rattle.probe.proofs.probe_chr_to_hex.Tie as tie
 
-chr-to-hex-requires : tie.Need-chr-to-hex-requires
-chr-to-hex-requires c κs = search needs
-
-byte-answer-requires : tie.Need-byte-answer-requires
-byte-answer-requires c κs = search needs
-
 returns : tie.Need-returns
 returns c = c .byte-answer .ensures ∙ c .before .chr-to-hex .ensures
 
 pub probe-chr-to-hex-spec : {M : Type 1} → statement M
-probe-chr-to-hex-spec = tie.close (tie.spec chr-to-hex-requires byte-answer-requires returns)
+probe-chr-to-hex-spec = tie.close (tie.spec (λ c κs. search needs) (λ c κs. search needs) returns)

@@ -5,14 +5,8 @@ use borrow.Author.Needs.{needs}
 use Rattle.probe.proofs.probe_hex_to_chr.Statement.{statement}
 use Rattle.probe.proofs.probe_hex_to_chr.Tie as tie
 
-hex-to-chr-requires : tie.Need-hex-to-chr-requires
-hex-to-chr-requires c κs = search needs
-
-byte-answer-requires : tie.Need-byte-answer-requires
-byte-answer-requires c κs = search needs
-
 returns : tie.Need-returns
 returns c = c .byte-answer .ensures ∙ c .before .hex-to-chr .ensures
 
 pub probe-hex-to-chr-spec : {M : Type 1} → statement M
-probe-hex-to-chr-spec = tie.close (tie.spec hex-to-chr-requires byte-answer-requires returns)
+probe-hex-to-chr-spec = tie.close (tie.spec (λ c κs. search needs) (λ c κs. search needs) returns)

@@ -6,12 +6,6 @@ use Rattle.modbus.proofs.StepLaws.{pick-yes, pick-no}
 use Rattle.records.proofs.report.Statement.{statement}
 use Rattle.records.proofs.report.Tie as tie
 
-say-requires : tie.Need-say-requires
-say-requires c κs = search needs
-
-say-requires-2 : tie.Need-say-requires-2
-say-requires-2 c κs = search needs
-
 returns : tie.Need-returns
 returns c = sym (pick-no _ _ _ (c .if1 .taken))
 
@@ -19,4 +13,4 @@ returns-2 : tie.Need-returns-2
 returns-2 c = sym (pick-yes _ _ _ (c .if1 .left))
 
 pub report-spec : {M : Type 1} → statement M
-report-spec = tie.close (tie.spec say-requires say-requires-2 returns returns-2)
+report-spec = tie.close (tie.spec (λ c κs. search needs) (λ c κs. search needs) returns returns-2)

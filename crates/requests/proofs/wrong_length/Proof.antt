@@ -13,9 +13,6 @@ use Rattle.requests.proofs.wrong_length.Tie as tie
 returns : tie.Need-returns
 returns c k = sym (pick-no (lengthy? (many k) (c .before .args .body .now)) _ _ (λ h. omega arith))
 
-shared-slice-read-if2 : tie.Need-shared-slice-read-if2
-shared-slice-read-if2 c = search needs
-
 cast-if2 : tie.Need-cast-if2
 cast-if2 c = fits-8-64 (c .shared-slice-known .given _)
 
@@ -32,4 +29,4 @@ returns-3 c k =
 
 pub wrong-length-spec : {M : Type 1} → statement M
 wrong-length-spec =
-    tie.close (tie.spec returns shared-slice-read-if2 cast-if2 add-if2 returns-2 returns-3)
+    tie.close (tie.spec returns (λ c. search needs) cast-if2 add-if2 returns-2 returns-3)

@@ -11,17 +11,8 @@ use Rattle.response.proofs.push.Tie as tie
 returns : tie.Need-returns
 returns c = sym (ap (toldWith _) (extended-none _ _ _ (omega arith)))
 
-slice-write-response : tie.Need-slice-write-response
-slice-write-response c = search needs
-
-add-t4 : tie.Need-add-t4
-add-t4 c = search needs
-
-same-length : tie.Need-same-length
-same-length c = search needs
-
 returns-2 : tie.Need-returns-2
 returns-2 c = sym (ap (toldWith _) (extended-fits _ _ _ (omega arith)))
 
 pub push-spec : {M : Type 1} → statement M
-push-spec = tie.close (tie.spec returns slice-write-response add-t4 same-length returns-2)
+push-spec = tie.close (tie.spec returns (λ c. search needs) (λ c. search needs) (λ c. search needs) returns-2)

@@ -8,26 +8,11 @@ use Rattle.frame.proofs.ParseLaws.{address-short, address-broadcast, ad
 use Rattle.frame.proofs.ModbusFrame.address.Statement.{statement}
 use Rattle.frame.proofs.ModbusFrame.address.Tie as tie
 
-refused-requires : tie.Need-refused-requires
-refused-requires c κs = search needs
-
 returns : tie.Need-returns
 returns c =
     let a = c .before .before .before .before .before .args in
     left _ (c .refused .ensures)
     ∙ sym (address-short (a .self) (a .buf .now) (a .list .now) (a .response .now) (omega arith))
-
-shared-slice-read-unit : tie.Need-shared-slice-read-unit
-shared-slice-read-unit c = search needs
-
-contains-requires : tie.Need-contains-requires
-contains-requires c κs = search needs
-
-for-us-requires : tie.Need-for-us-requires
-for-us-requires c κs = search needs
-
-same-length : tie.Need-same-length
-same-length c = search needs
 
 returns-2 : tie.Need-returns-2
 returns-2 c =
@@ -39,9 +24,6 @@ returns-2 c =
     ∙ sym (address-broadcast (a .self) (a .buf .now) (a .list .now) (a .response .now) (omega arith) _ e
     (q .if2 .taken))
 
-done-requires : tie.Need-done-requires
-done-requires c κs = search needs
-
 returns-3 : tie.Need-returns-3
 returns-3 c =
     let q = c .before .before .before in
@@ -50,12 +32,6 @@ returns-3 c =
     left _ (c .done .ensures)
     ∙ sym (address-foreign (a .self) (a .buf .now) (a .list .now) (a .response .now) (omega arith) _ e (q .if2 .left)
     (c .before .if3 .taken))
-
-for-us-requires-2 : tie.Need-for-us-requires-2
-for-us-requires-2 c κs = search needs
-
-same-length-2 : tie.Need-same-length-2
-same-length-2 c = search needs
 
 returns-4 : tie.Need-returns-4
 returns-4 c =
@@ -71,15 +47,15 @@ pub address-spec : {M : Type 1} → statement M
 address-spec =
     tie.close
     (tie.spec
-    refused-requires
+    (λ c κs. search needs)
     returns
-    shared-slice-read-unit
-    contains-requires
-    for-us-requires
-    same-length
+    (λ c. search needs)
+    (λ c κs. search needs)
+    (λ c κs. search needs)
+    (λ c. search needs)
     returns-2
-    done-requires
+    (λ c κs. search needs)
     returns-3
-    for-us-requires-2
-    same-length-2
+    (λ c κs. search needs)
+    (λ c. search needs)
     returns-4)

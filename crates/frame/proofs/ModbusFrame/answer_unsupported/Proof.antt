@@ -7,17 +7,8 @@ use Rattle.frame.proofs.StateLaws.{left}
 use Rattle.frame.proofs.ModbusFrame.answer_unsupported.Statement.{statement}
 use Rattle.frame.proofs.ModbusFrame.answer_unsupported.Tie as tie
 
-done-requires : tie.Need-done-requires
-done-requires c κs = search needs
-
 returns : tie.Need-returns
 returns c out = rw (c .before .if1 .taken) (left out (c .done .ensures))
-
-with-error-requires : tie.Need-with-error-requires
-with-error-requires c κs = search needs
-
-done-requires-2 : tie.Need-done-requires-2
-done-requires-2 c κs = search needs
 
 returns-2 : tie.Need-returns-2
 returns-2 c out =
@@ -25,4 +16,4 @@ returns-2 c out =
 
 pub answer-unsupported-spec : {M : Type 1} → statement M
 answer-unsupported-spec =
-    tie.close (tie.spec done-requires returns with-error-requires done-requires-2 returns-2)
+    tie.close (tie.spec (λ c κs. search needs) returns (λ c κs. search needs) (λ c κs. search needs) returns-2)

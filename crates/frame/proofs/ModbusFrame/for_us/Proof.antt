@@ -8,12 +8,6 @@ use Rattle.frame.proofs.ParseLaws.{header-there, us-bare, us-full, us-h
 use Rattle.frame.proofs.ModbusFrame.for_us.Statement.{statement}
 use Rattle.frame.proofs.ModbusFrame.for_us.Tie as tie
 
-copies-header-requires : tie.Need-copies-header-requires
-copies-header-requires c κs = search needs
-
-name-requires : tie.Need-name-requires
-name-requires c κs = search needs
-
 returns : tie.Need-returns
 returns c =
     let p = c .before .before in
@@ -23,12 +17,6 @@ returns c =
     c .name .ensures (a .response .now)
     ∙ sym (us-bare (a .broadcast) (a .self) (a .buf .now) (a .response .now) e (s .pre .2))
 
-sub-extend : tie.Need-sub-extend
-sub-extend c = search needs
-
-part-extend-start : tie.Need-part-extend-start
-part-extend-start c = search needs
-
 part-extend-end : tie.Need-part-extend-end
 part-extend-end c =
     let p = c .before .before in
@@ -36,24 +24,6 @@ part-extend-end c =
     let a = s .args in
     let e = sym (p .copies-header .ensures) ∙ not-false _ (c .before .if1 .left) in
     header-there (a .broadcast) (a .self .proto) (a .buf .now) e (s .pre .0)
-
-extend-requires : tie.Need-extend-requires
-extend-requires c κs = search needs
-
-enum-known-k : tie.Need-enum-known-k
-enum-known-k c = search needs
-
-refused-requires : tie.Need-refused-requires
-refused-requires c κs = search needs
-
-enum-known-n : tie.Need-enum-known-n
-enum-known-n c = search needs
-
-name-requires-2 : tie.Need-name-requires-2
-name-requires-2 c κs = search needs
-
-same-length : tie.Need-same-length
-same-length c = search needs
 
 returns-2 : tie.Need-returns-2
 returns-2 c =
@@ -64,9 +34,6 @@ returns-2 c =
     let x = p .extend .ensures in
     left _ (c .refused .ensures)
     ∙ sym (us-full (a .broadcast) (a .self) (a .buf .now) (a .response .now) e _ _ x _ (c .before .before .k .given .1))
-
-same-length-2 : tie.Need-same-length-2
-same-length-2 c = search needs
 
 returns-3 : tie.Need-returns-3
 returns-3 c =
@@ -83,18 +50,18 @@ pub for-us-spec : {M : Type 1} → statement M
 for-us-spec =
     tie.close
     (tie.spec
-    copies-header-requires
-    name-requires
+    (λ c κs. search needs)
+    (λ c κs. search needs)
     returns
-    sub-extend
-    part-extend-start
+    (λ c. search needs)
+    (λ c. search needs)
     part-extend-end
-    extend-requires
-    enum-known-k
-    refused-requires
-    enum-known-n
-    name-requires-2
-    same-length
+    (λ c κs. search needs)
+    (λ c. search needs)
+    (λ c κs. search needs)
+    (λ c. search needs)
+    (λ c κs. search needs)
+    (λ c. search needs)
     returns-2
-    same-length-2
+    (λ c. search needs)
     returns-3)

@@ -8,35 +8,8 @@ use Rattle.frame.proofs.ParseLaws.{named-short, named-unsupported, name
 use Rattle.frame.proofs.ModbusFrame.name.Statement.{statement}
 use Rattle.frame.proofs.ModbusFrame.name.Tie as tie
 
-sub-if1 : tie.Need-sub-if1
-sub-if1 c = search needs
-
-refused-requires : tie.Need-refused-requires
-refused-requires c κs = search needs
-
 returns : tie.Need-returns
 returns c out = left out (c .refused .ensures) ∙ sym (named-short _ _ _ out (omega arith))
-
-add-number : tie.Need-add-number
-add-number c = search needs
-
-shared-slice-read-number : tie.Need-shared-slice-read-number
-shared-slice-read-number c = search needs
-
-function-of-requires : tie.Need-function-of-requires
-function-of-requires c κs = search needs
-
-enum-told : tie.Need-enum-told
-enum-told c = search needs
-
-answer-unsupported-requires : tie.Need-answer-unsupported-requires
-answer-unsupported-requires c κs = search needs
-
-enum-known-f : tie.Need-enum-known-f
-enum-known-f c = search needs
-
-with-func-requires : tie.Need-with-func-requires
-with-func-requires c κs = search needs
 
 request-requires : tie.Need-request-requires
 request-requires c κs = rw (c .with-func .ensures) (omega arith)
@@ -63,16 +36,16 @@ pub name-spec : {M : Type 1} → statement M
 name-spec =
     tie.close
     (tie.spec
-    sub-if1
-    refused-requires
+    (λ c. search needs)
+    (λ c κs. search needs)
     returns
-    add-number
-    shared-slice-read-number
-    function-of-requires
-    enum-told
-    answer-unsupported-requires
-    enum-known-f
-    with-func-requires
+    (λ c. search needs)
+    (λ c. search needs)
+    (λ c κs. search needs)
+    (λ c. search needs)
+    (λ c κs. search needs)
+    (λ c. search needs)
+    (λ c κs. search needs)
     request-requires
     returns-2
     returns-3)

@@ -8,26 +8,11 @@ use Rattle.frame.proofs.ParseLaws.{parse-exceeds, parse-headed, parse-b
 use Rattle.frame.proofs.ModbusFrame.parse.Statement.{statement}
 use Rattle.frame.proofs.ModbusFrame.parse.Tie as tie
 
-refused-requires : tie.Need-refused-requires
-refused-requires c κs = search needs
-
 returns : tie.Need-returns
 returns c =
     let a = c .before .before .before .before .before .before .args in
     left _ (c .refused .ensures)
     ∙ sym (parse-exceeds (a .self) (a .buf .now) (a .list .now) (a .response .now) (omega arith))
-
-frame-start-requires : tie.Need-frame-start-requires
-frame-start-requires c κs = search needs
-
-enum-known-k : tie.Need-enum-known-k
-enum-known-k c = search needs
-
-refused-requires-2 : tie.Need-refused-requires-2
-refused-requires-2 c κs = search needs
-
-enum-known-n : tie.Need-enum-known-n
-enum-known-n c = search needs
 
 address-requires : tie.Need-address-requires
 address-requires c κs =
@@ -44,9 +29,6 @@ returns-2 c =
     ∙ sym (parse-broken (a .self) (a .buf .now) _ e (a .list .now) (a .response .now) (omega arith) _
     (c .before .before .k .given .1))
 
-same-length : tie.Need-same-length
-same-length c = search needs
-
 returns-3 : tie.Need-returns-3
 returns-3 c =
     let p = c .before .before in
@@ -61,13 +43,13 @@ pub parse-spec : {M : Type 1} → statement M
 parse-spec =
     tie.close
     (tie.spec
-    refused-requires
+    (λ c κs. search needs)
     returns
-    frame-start-requires
-    enum-known-k
-    refused-requires-2
-    enum-known-n
+    (λ c κs. search needs)
+    (λ c. search needs)
+    (λ c κs. search needs)
+    (λ c. search needs)
     address-requires
     returns-2
-    same-length
+    (λ c. search needs)
     returns-3)

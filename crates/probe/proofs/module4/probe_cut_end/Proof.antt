@@ -5,14 +5,8 @@ use borrow.Author.Needs.{needs}
 use Rattle.probe.proofs.module4.probe_cut_end.Statement.{statement}
 use Rattle.probe.proofs.module4.probe_cut_end.Tie as tie
 
-cut-end-requires : tie.Need-cut-end-requires
-cut-end-requires c κs = search needs
-
-size-answer-requires : tie.Need-size-answer-requires
-size-answer-requires c κs = search needs
-
 returns : tie.Need-returns
 returns c = c .size-answer .ensures ∙ c .before .cut-end .ensures
 
 pub probe-cut-end-spec : {M : Type 1} → statement M
-probe-cut-end-spec = tie.close (tie.spec cut-end-requires size-answer-requires returns)
+probe-cut-end-spec = tie.close (tie.spec (λ c κs. search needs) (λ c κs. search needs) returns)

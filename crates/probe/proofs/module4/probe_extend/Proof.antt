@@ -6,19 +6,10 @@ use borrow.Author.Needs.{needs}
 use Rattle.probe.proofs.module4.probe_extend.Statement.{statement}
 use Rattle.probe.proofs.module4.probe_extend.Tie as tie
 
-extend-requires : tie.Need-extend-requires
-extend-requires c κs = search needs
-
-size-answer-requires : tie.Need-size-answer-requires
-size-answer-requires c κs = search needs
-
-same-length : tie.Need-same-length
-same-length c = search needs
-
 returns : tie.Need-returns
 returns c =
     let called = c .before .before .before .extend in
     ap (λ (n : ℕ × ℕ). (n, called .last .0)) (c .size-answer .ensures) ∙ called .ensures
 
 pub probe-extend-spec : {M : Type 1} → statement M
-probe-extend-spec = tie.close (tie.spec extend-requires size-answer-requires same-length returns)
+probe-extend-spec = tie.close (tie.spec (λ c κs. search needs) (λ c κs. search needs) (λ c. search needs) returns)

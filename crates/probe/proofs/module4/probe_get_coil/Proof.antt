@@ -5,14 +5,8 @@ use borrow.Author.Needs.{needs}
 use Rattle.probe.proofs.module4.probe_get_coil.Statement.{statement}
 use Rattle.probe.proofs.module4.probe_get_coil.Tie as tie
 
-get-coil-requires : tie.Need-get-coil-requires
-get-coil-requires c κs = search needs
-
-bit-answer-requires : tie.Need-bit-answer-requires
-bit-answer-requires c κs = search needs
-
 returns : tie.Need-returns
 returns c = c .bit-answer .ensures ∙ c .before .get-coil .ensures
 
 pub probe-get-coil-spec : {M : Type 1} → statement M
-probe-get-coil-spec = tie.close (tie.spec get-coil-requires bit-answer-requires returns)
+probe-get-coil-spec = tie.close (tie.spec (λ c κs. search needs) (λ c κs. search needs) returns)

@@ -6,15 +6,6 @@ use borrow.Author.Needs.{needs}
 use Rattle.probe.proofs.module4.probe_get_coils_as_u8.Statement.{statement}
 use Rattle.probe.proofs.module4.probe_get_coils_as_u8.Tie as tie
 
-get-coils-as-u8-requires : tie.Need-get-coils-as-u8-requires
-get-coils-as-u8-requires c κs = search needs
-
-size-answer-requires : tie.Need-size-answer-requires
-size-answer-requires c κs = search needs
-
-same-length : tie.Need-same-length
-same-length c = search needs
-
 returns : tie.Need-returns
 returns c =
     let called = c .before .before .before .get-coils-as-u8 in
@@ -22,4 +13,4 @@ returns c =
 
 pub probe-get-coils-as-u8-spec : {M : Type 1} → statement M
 probe-get-coils-as-u8-spec =
-    tie.close (tie.spec get-coils-as-u8-requires size-answer-requires same-length returns)
+    tie.close (tie.spec (λ c κs. search needs) (λ c κs. search needs) (λ c. search needs) returns)

@@ -6,15 +6,6 @@ use borrow.Author.Needs.{needs}
 use Rattle.probe.proofs.module4.probe_set_coil.Statement.{statement}
 use Rattle.probe.proofs.module4.probe_set_coil.Tie as tie
 
-set-coil-requires : tie.Need-set-coil-requires
-set-coil-requires c κs = search needs
-
-done-answer-requires : tie.Need-done-answer-requires
-done-answer-requires c κs = search needs
-
-same-length : tie.Need-same-length
-same-length c = search needs
-
 returns : tie.Need-returns
 returns c =
     let called = c .before .before .before .set-coil in
@@ -22,4 +13,4 @@ returns c =
 
 pub probe-set-coil-spec : {M : Type 1} → statement M
 probe-set-coil-spec =
-    tie.close (tie.spec set-coil-requires done-answer-requires same-length returns)
+    tie.close (tie.spec (λ c κs. search needs) (λ c κs. search needs) (λ c. search needs) returns)

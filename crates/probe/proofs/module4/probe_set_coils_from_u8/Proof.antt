@@ -6,15 +6,6 @@ use borrow.Author.Needs.{needs}
 use Rattle.probe.proofs.module4.probe_set_coils_from_u8.Statement.{statement}
 use Rattle.probe.proofs.module4.probe_set_coils_from_u8.Tie as tie
 
-set-coils-from-u8-requires : tie.Need-set-coils-from-u8-requires
-set-coils-from-u8-requires c κs = search needs
-
-done-answer-requires : tie.Need-done-answer-requires
-done-answer-requires c κs = search needs
-
-same-length : tie.Need-same-length
-same-length c = search needs
-
 returns : tie.Need-returns
 returns c =
     let called = c .before .before .before .set-coils-from-u8 in
@@ -22,4 +13,4 @@ returns c =
 
 pub probe-set-coils-from-u8-spec : {M : Type 1} → statement M
 probe-set-coils-from-u8-spec =
-    tie.close (tie.spec set-coils-from-u8-requires done-answer-requires same-length returns)
+    tie.close (tie.spec (λ c κs. search needs) (λ c κs. search needs) (λ c. search needs) returns)

@@ -6,15 +6,6 @@ use borrow.Author.Needs.{needs}
 use Rattle.probe.proofs.module4.probe_set_holding.Statement.{statement}
 use Rattle.probe.proofs.module4.probe_set_holding.Tie as tie
 
-set-holding-requires : tie.Need-set-holding-requires
-set-holding-requires c κs = search needs
-
-done-answer-requires : tie.Need-done-answer-requires
-done-answer-requires c κs = search needs
-
-same-length : tie.Need-same-length
-same-length c = search needs
-
 returns : tie.Need-returns
 returns c =
     let called = c .before .before .before .set-holding in
@@ -22,4 +13,4 @@ returns c =
 
 pub probe-set-holding-spec : {M : Type 1} → statement M
 probe-set-holding-spec =
-    tie.close (tie.spec set-holding-requires done-answer-requires same-length returns)
+    tie.close (tie.spec (λ c κs. search needs) (λ c κs. search needs) (λ c. search needs) returns)

@@ -7,9 +7,6 @@ use borrow.Author.Needs.{needs}
 use Rattle.records.proofs.parts.laid.Statement.{statement}
 use Rattle.records.proofs.parts.laid.Tie as tie
 
-shared-slice-read-result : tie.Need-shared-slice-read-result
-shared-slice-read-result c = search needs
-
 returns : tie.Need-returns
 returns c = let a = c .before .before .args in getD-inside (a .front .now) _ 0 (a .filler) (c .before .if1 .taken)
 
@@ -17,4 +14,4 @@ returns-2 : tie.Need-returns-2
 returns-2 c = sym (List·getD-eq-default (c .before .args .front .now) _ (c .if1 .left))
 
 pub laid-spec : {M : Type 1} → statement M
-laid-spec = tie.close (tie.spec shared-slice-read-result returns returns-2)
+laid-spec = tie.close (tie.spec (λ c. search needs) returns returns-2)

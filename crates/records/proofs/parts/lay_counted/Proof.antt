@@ -22,24 +22,6 @@ abbrev μ-loop : tie.MeasureT-loop
 loop-holds : tie.Need-loop-holds Inv-loop μ-loop
 loop-holds c = (omega arith, refl, laid-none _ _)
 
-add-laid : tie.Need-add-laid Inv-loop μ-loop
-add-laid c = search needs
-
-cast-laid : tie.Need-cast-laid Inv-loop μ-loop
-cast-laid c = search needs
-
-laid-requires : tie.Need-laid-requires Inv-loop μ-loop
-laid-requires c κs = search needs
-
-slice-write-buffer : tie.Need-slice-write-buffer Inv-loop μ-loop
-slice-write-buffer c = search needs
-
-add-i : tie.Need-add-i Inv-loop μ-loop
-add-i c = search needs
-
-loop-less : tie.Need-loop-less Inv-loop μ-loop
-loop-less c = search needs
-
 loop-again : tie.Need-loop-again Inv-loop μ-loop
 loop-again c =
     let a = c .before .before .before .before .before .args in
@@ -50,9 +32,6 @@ loop-again c =
       simp length-set (omega arith),
       rw (c .laid .ensures, k) (laid-more f (a .buffer .now) _ (l .i) (l .inv .2) (omega arith)),
     )
-
-same-length : tie.Need-same-length Inv-loop μ-loop
-same-length c = search needs
 
 returns : tie.Need-returns Inv-loop μ-loop
 returns c =
@@ -67,12 +46,12 @@ lay-counted-spec =
     Inv-loop
     μ-loop
     loop-holds
-    add-laid
-    cast-laid
-    laid-requires
-    slice-write-buffer
-    add-i
-    loop-less
+    (λ c. search needs)
+    (λ c. search needs)
+    (λ c κs. search needs)
+    (λ c. search needs)
+    (λ c. search needs)
+    (λ c. search needs)
     loop-again
-    same-length
+    (λ c. search needs)
     returns)

@@ -22,9 +22,6 @@ returns c =
     let a = c .before .before .before .before .args in
     stood-short (a .buffer .now) (a .front .now) (a .filler) (a .at) (a .after .now) (omega arith)
 
-sub-if2 : tie.Need-sub-if2 Inv-loop μ-loop
-sub-if2 c = search needs
-
 returns-2 : tie.Need-returns-2 Inv-loop μ-loop
 returns-2 c =
     let a = c .before .before .before .before .before .args in
@@ -33,23 +30,11 @@ returns-2 c =
 loop-holds : tie.Need-loop-holds Inv-loop μ-loop
 loop-holds c = (omega arith, same-none _ (c .before .before .before .before .before .args .buffer .now))
 
-shared-slice-read-if3 : tie.Need-shared-slice-read-if3 Inv-loop μ-loop
-shared-slice-read-if3 c = search needs
-
-wanted-requires : tie.Need-wanted-requires Inv-loop μ-loop
-wanted-requires c κs = search needs
-
 returns-3 : tie.Need-returns-3 Inv-loop μ-loop
 returns-3 c =
     let a = c .before .before .before .before .before .before .before .before .before .before .args in
     let l = c .before .before .before .before .loop in
     stood-other (a .buffer .now) (a .front .now) (a .filler) (a .at) (a .after .now) (l .i) _ (c .before .wanted .ensures) (omega arith) (c .if3 .taken)
-
-add-i : tie.Need-add-i Inv-loop μ-loop
-add-i c = search needs
-
-loop-less : tie.Need-loop-less Inv-loop μ-loop
-loop-less c = search needs
 
 loop-again : tie.Need-loop-again Inv-loop μ-loop
 loop-again c =
@@ -69,13 +54,13 @@ stands-spec =
     Inv-loop
     μ-loop
     returns
-    sub-if2
+    (λ c. search needs)
     returns-2
     loop-holds
-    shared-slice-read-if3
-    wanted-requires
+    (λ c. search needs)
+    (λ c κs. search needs)
     returns-3
-    add-i
-    loop-less
+    (λ c. search needs)
+    (λ c. search needs)
     loop-again
     returns-4)

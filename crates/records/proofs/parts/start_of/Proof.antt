@@ -3,7 +3,7 @@
 use mathlib.Core.Path.{_≡_, sym, ap₂, _∙_}
 use Prim.Native.Nat.{_≤_, _-_, _*_, _+_}
 use native.Mathlib.Omega.{arith}
-use Rattle.records.specs.Parts.{startOf}
+use Rattle.records.specs.Parts.{partStart}
 use Rattle.records.proofs.PartsLaws.{start-none, start-next}
 use borrow.Author.Needs.{needs}
 use Rattle.records.proofs.parts.start_of.Statement.{statement}
@@ -11,37 +11,13 @@ use Rattle.records.proofs.parts.start_of.Tie as tie
 
 abbrev Inv-loop : tie.InvT-loop
 Inv-loop «record» lengths parts k at₀ i₀ at i =
-    (i ≤ k) × (k ≤ 255) × (at ≤ 65535 + 65535 * i) × (at ≡ startOf «record» lengths parts i)
+    (i ≤ k) × (k ≤ 255) × (at ≤ 65535 + 65535 * i) × (at ≡ partStart «record» lengths parts i)
 
 abbrev μ-loop : tie.MeasureT-loop
 μ-loop «record» lengths parts k at₀ i₀ at i = k - i
 
 loop-holds : tie.Need-loop-holds Inv-loop μ-loop
 loop-holds c = (omega arith, omega arith, omega arith, start-none _ _ _)
-
-cast-word : tie.Need-cast-word Inv-loop μ-loop
-cast-word c = search needs
-
-mul-word : tie.Need-mul-word Inv-loop μ-loop
-mul-word c = search needs
-
-add-word : tie.Need-add-word Inv-loop μ-loop
-add-word c = search needs
-
-word-requires : tie.Need-word-requires Inv-loop μ-loop
-word-requires c κs = search needs
-
-cast-at : tie.Need-cast-at Inv-loop μ-loop
-cast-at c = search needs
-
-add-at : tie.Need-add-at Inv-loop μ-loop
-add-at c = search needs
-
-add-i : tie.Need-add-i Inv-loop μ-loop
-add-i c = search needs
-
-loop-less : tie.Need-loop-less Inv-loop μ-loop
-loop-less c = search needs
 
 loop-again : tie.Need-loop-again Inv-loop μ-loop
 loop-again c =
@@ -62,13 +38,13 @@ start-of-spec =
     Inv-loop
     μ-loop
     loop-holds
-    cast-word
-    mul-word
-    add-word
-    word-requires
-    cast-at
-    add-at
-    add-i
-    loop-less
+    (λ c. search needs)
+    (λ c. search needs)
+    (λ c. search needs)
+    (λ c κs. search needs)
+    (λ c. search needs)
+    (λ c. search needs)
+    (λ c. search needs)
+    (λ c. search needs)
     loop-again
     returns)

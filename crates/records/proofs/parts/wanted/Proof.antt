@@ -7,17 +7,11 @@ use borrow.Author.Needs.{needs}
 use Rattle.records.proofs.parts.wanted.Statement.{statement}
 use Rattle.records.proofs.parts.wanted.Tie as tie
 
-laid-requires : tie.Need-laid-requires
-laid-requires c κs = search needs
-
 returns : tie.Need-returns
 returns c = c .before .laid .ensures ∙ sym (pick-yes _ _ _ (omega arith))
-
-laid-requires-2 : tie.Need-laid-requires-2
-laid-requires-2 c κs = search needs
 
 returns-2 : tie.Need-returns-2
 returns-2 c = rw (c .laid2 .ensures, c .before .before .laid .ensures) (sym (pick-no _ _ _ (λ h. omega arith)))
 
 pub wanted-spec : {M : Type 1} → statement M
-wanted-spec = tie.close (tie.spec laid-requires returns laid-requires-2 returns-2)
+wanted-spec = tie.close (tie.spec (λ c κs. search needs) returns (λ c κs. search needs) returns-2)

@@ -6,62 +6,40 @@ use Prim.Native.Nat.{ℕ, _+_, _/_}
 use native.Mathlib.Omega.{arith}
 use borrow.Author.Needs.{needs}
 use Rattle.modbus.specs.Paper.{toldWith}
-use Rattle.modbus.proofs.StepLaws.{pass, fail}
-use Rattle.tables.specs.Calls.{added}
+use Rattle.modbus.specs.Storage.{packed}
+use Rattle.tables.proofs.CallsLaws.{added-long, added-outside, added-full, added-inside}
 use Rattle.tables.proofs.coils.add_cells.Statement.{statement}
 use Rattle.tables.proofs.coils.add_cells.Tie as tie
 
 returns : tie.Need-returns
-unfolding added
-returns c = sym (ap (toldWith _) (fail _ _ _ (λ h. omega arith)))
-
-add-if2 : tie.Need-add-if2
-add-if2 c = search needs
-
-size-of-requires : tie.Need-size-of-requires
-size-of-requires c κs = search needs
+returns c = sym (ap (toldWith _) (added-long packed _ _ _ _ _ _ (omega arith)))
 
 returns-2 : tie.Need-returns-2
-unfolding added
-returns-2 c =
-    sym (ap (toldWith _) (pass _ _ _ (omega arith) ∙ fail _ _ _ (λ h. omega arith)))
-
-add-end : tie.Need-add-end
-add-end c = search needs
-
-add-end-2 : tie.Need-add-end-2
-add-end-2 c = search needs
+returns-2 c = sym (ap (toldWith _) (added-outside packed _ _ _ _ _ _ (omega arith) (omega arith)))
 
 returns-3 : tie.Need-returns-3
-unfolding added
-returns-3 c =
-    sym (ap (toldWith _) (pass _ _ _ (omega arith) ∙ pass _ _ _ (omega arith) ∙ fail _ _ _ (λ h. omega arith)))
+returns-3 c = sym (ap (toldWith _) (added-full packed _ _ _ _ _ _ (omega arith) (omega arith) (omega arith)))
 
 show-requires : tie.Need-show-requires
 show-requires c κs = omega arith
 
-same-length : tie.Need-same-length
-same-length c = search needs
-
 returns-4 : tie.Need-returns-4
-unfolding added
 returns-4 c =
-    let s = c .before .before .before .before .before .before in
-    let a = s .before .before .before .before .args in
+    let a = c .before .before .before .before .before .before .before .before .before .before .args in
     ap (λ (l : List ℕ). ((0, a .len + (a .count + 7) / 8), l)) (c .before .before .show .ensures)
-    ∙ sym (ap (toldWith (a .response .now)) (pass _ _ _ (omega (arith, s)) ∙ pass _ _ _ (omega (arith, s)) ∙ pass _ _ _ (omega arith)))
+    ∙ sym (ap (toldWith _) (added-inside packed _ _ _ _ _ _ (omega arith) (omega arith)))
 
 pub add-cells-spec : {M : Type 1} → statement M
 add-cells-spec =
     tie.close
     (tie.spec
     returns
-    add-if2
-    size-of-requires
+    (λ c. search needs)
+    (λ c κs. search needs)
     returns-2
-    add-end
-    add-end-2
+    (λ c. search needs)
+    (λ c. search needs)
     returns-3
     show-requires
-    same-length
+    (λ c. search needs)
     returns-4)

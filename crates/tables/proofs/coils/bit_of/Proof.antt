@@ -10,9 +10,6 @@ use Rattle.modbus.specs.Paper.{digitOf}
 use Rattle.tables.proofs.coils.bit_of.Statement.{statement}
 use Rattle.tables.proofs.coils.bit_of.Tie as tie
 
-shr-result : tie.Need-shr-result
-shr-result c = search needs
-
 flag : (x : ℕ) → x < 2 → digitOf (eqb x 1) ≡ x
 flag zero h = refl
 flag (suc zero) h = refl
@@ -24,4 +21,4 @@ returns c =
     ap (λ (k : ℕ). digitOf (eqb k 1)) (and-mask x 1) ∙ flag (x % 2) (omega arith)
 
 pub bit-of-spec : {M : Type 1} → statement M
-bit-of-spec = tie.close (tie.spec shr-result returns)
+bit-of-spec = tie.close (tie.spec (λ c. search needs) returns)

@@ -10,7 +10,8 @@ use Rattle.modbus.specs.Bytes.{pack}
 use Rattle.modbus.specs.Table.{part}
 use Rattle.modbus.specs.Storage.{coilAt}
 use Rattle.modbus.proofs.BytesLaws.{bytes-by}
-use Rattle.tables.proofs.RunsLaws.{eight-read, pack-step, pack-done}
+use Rattle.tables.proofs.EightLaws.{eight-read}
+use Rattle.tables.proofs.RunsLaws.{pack-step, pack-done}
 use Rattle.tables.proofs.coils.copy_whole.Statement.{statement}
 use Rattle.tables.proofs.coils.copy_whole.Tie as tie
 

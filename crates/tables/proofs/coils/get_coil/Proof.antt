@@ -11,21 +11,12 @@ use Rattle.tables.specs.Calls.{got}
 use Rattle.tables.proofs.coils.get_coil.Statement.{statement}
 use Rattle.tables.proofs.coils.get_coil.Tie as tie
 
-size-of-requires : tie.Need-size-of-requires
-size-of-requires c κs = search needs
-
 returns : tie.Need-returns
 unfolding got
 returns c = sym (ap told (fail _ _ _ (λ h. omega arith)))
 
 shared-slice-read-bit-of : tie.Need-shared-slice-read-bit-of
 shared-slice-read-bit-of c = omega arith
-
-cast-bit-of : tie.Need-cast-bit-of
-cast-bit-of c = search needs
-
-bit-of-requires : tie.Need-bit-of-requires
-bit-of-requires c κs = search needs
 
 returns-2 : tie.Need-returns-2
 unfolding got coilAt
@@ -35,4 +26,4 @@ returns-2 c =
 
 pub get-coil-spec : {M : Type 1} → statement M
 get-coil-spec =
-    tie.close (tie.spec size-of-requires returns shared-slice-read-bit-of cast-bit-of bit-of-requires returns-2)
+    tie.close (tie.spec (λ c κs. search needs) returns shared-slice-read-bit-of (λ c. search needs) (λ c κs. search needs) returns-2)

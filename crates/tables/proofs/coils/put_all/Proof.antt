@@ -12,51 +12,12 @@ use Rattle.tables.proofs.RunsLaws.{store-three}
 use Rattle.tables.proofs.coils.put_all.Statement.{statement}
 use Rattle.tables.proofs.coils.put_all.Tie as tie
 
-put-one-requires : tie.Need-put-one-requires
-put-one-requires c κs = search needs
-
-same-length : tie.Need-same-length
-same-length c = search needs
-
 returns : tie.Need-returns
 returns c =
     let p = c .before .before in
     let i = p .before .before in
     let a = i .before .before .before .args in
     p .put-one .ensures ∙ sym (ap (λ (n : ℕ). store packed (a .dst .now) (a .at) (part (coilAt (a .src .now)) 0 n)) (i .if1 .taken))
-
-head-of-requires : tie.Need-head-of-requires
-head-of-requires c κs = search needs
-
-sub-whole : tie.Need-sub-whole
-sub-whole c = search needs
-
-mul-done : tie.Need-mul-done
-mul-done c = search needs
-
-add-done : tie.Need-add-done
-add-done c = search needs
-
-put-run-requires : tie.Need-put-run-requires
-put-run-requires c κs = search needs
-
-add-copy-whole : tie.Need-add-copy-whole
-add-copy-whole c = search needs
-
-copy-whole-requires : tie.Need-copy-whole-requires
-copy-whole-requires c κs = search needs
-
-add-put-run : tie.Need-add-put-run
-add-put-run c = search needs
-
-sub-put-run : tie.Need-sub-put-run
-sub-put-run c = search needs
-
-put-run-requires-2 : tie.Need-put-run-requires-2
-put-run-requires-2 c κs = search needs
-
-same-length-2 : tie.Need-same-length-2
-same-length-2 c = search needs
 
 returns-2 : tie.Need-returns-2
 returns-2 c =
@@ -75,18 +36,18 @@ pub put-all-spec : {M : Type 1} → statement M
 put-all-spec =
     tie.close
     (tie.spec
-    put-one-requires
-    same-length
+    (λ c κs. search needs)
+    (λ c. search needs)
     returns
-    head-of-requires
-    sub-whole
-    mul-done
-    add-done
-    put-run-requires
-    add-copy-whole
-    copy-whole-requires
-    add-put-run
-    sub-put-run
-    put-run-requires-2
-    same-length-2
+    (λ c κs. search needs)
+    (λ c. search needs)
+    (λ c. search needs)
+    (λ c. search needs)
+    (λ c κs. search needs)
+    (λ c. search needs)
+    (λ c κs. search needs)
+    (λ c. search needs)
+    (λ c. search needs)
+    (λ c κs. search needs)
+    (λ c. search needs)
     returns-2)

@@ -9,7 +9,7 @@ use Rattle.modbus.specs.Table.{part}
 use Rattle.modbus.specs.Storage.{coilAt, packed, store}
 use Rattle.modbus.proofs.BytesLaws.{bytes-by}
 use Rattle.modbus.proofs.StorageLaws.{length-part, part-all, coil-bit}
-use Rattle.tables.proofs.RunsLaws.{store-masked}
+use Rattle.tables.proofs.EightLaws.{store-masked}
 use Rattle.tables.proofs.coils.put_run.Statement.{statement}
 use Rattle.tables.proofs.coils.put_run.Tie as tie
 

@@ -3,7 +3,7 @@
 use Prim.Native.Nat.{_+_, _-_, _/_}
 use native.Mathlib.Omega.{arith}
 use Rattle.modbus.proofs.BytesLaws.{bytes-by}
-use Rattle.tables.proofs.RunsLaws.{run-masked}
+use Rattle.tables.proofs.EightLaws.{run-masked}
 use Rattle.tables.proofs.coils.run_at.Statement.{statement}
 use Rattle.tables.proofs.coils.run_at.Tie as tie
 

@@ -12,12 +12,6 @@ use Rattle.tables.specs.Calls.{changed}
 use Rattle.tables.proofs.coils.set_coil.Statement.{statement}
 use Rattle.tables.proofs.coils.set_coil.Tie as tie
 
-size-of-requires : tie.Need-size-of-requires
-size-of-requires c κs = search needs
-
-same-length : tie.Need-same-length
-same-length c = search needs
-
 returns : tie.Need-returns
 unfolding changed
 returns c = sym (ap (toldWith _) (fail _ _ _ (λ h. omega arith)))
@@ -25,17 +19,8 @@ returns c = sym (ap (toldWith _) (fail _ _ _ (λ h. omega arith)))
 slice-read-with-bit : tie.Need-slice-read-with-bit
 slice-read-with-bit c = omega arith
 
-cast-with-bit : tie.Need-cast-with-bit
-cast-with-bit c = search needs
-
-with-bit-requires : tie.Need-with-bit-requires
-with-bit-requires c κs = search needs
-
 slice-write-table : tie.Need-slice-write-table
 slice-write-table c = omega arith
-
-same-length-2 : tie.Need-same-length-2
-same-length-2 c = search needs
 
 returns-2 : tie.Need-returns-2
 unfolding changed putCoil
@@ -48,12 +33,12 @@ pub set-coil-spec : {M : Type 1} → statement M
 set-coil-spec =
     tie.close
     (tie.spec
-    size-of-requires
-    same-length
+    (λ c κs. search needs)
+    (λ c. search needs)
     returns
     slice-read-with-bit
-    cast-with-bit
-    with-bit-requires
+    (λ c. search needs)
+    (λ c κs. search needs)
     slice-write-table
-    same-length-2
+    (λ c. search needs)
     returns-2)

@@ -11,9 +11,6 @@ use Rattle.tables.proofs.coils.size_of.Tie as tie
 returns : tie.Need-returns
 returns c = (sym (size-unsound packed _ _ (λ h. omega arith)), omega arith, omega arith)
 
-add-if2 : tie.Need-add-if2
-add-if2 c = search needs
-
 returns-2 : tie.Need-returns-2
 returns-2 c = (sym (size-unsound packed _ _ (λ h. omega arith)), omega arith, omega arith)
 
@@ -21,4 +18,4 @@ returns-3 : tie.Need-returns-3
 returns-3 c = (sym (size-sound packed _ _ (omega arith, omega arith)), omega arith, omega arith)
 
 pub size-of-spec : {M : Type 1} → statement M
-size-of-spec = tie.close (tie.spec returns add-if2 returns-2 returns-3)
+size-of-spec = tie.close (tie.spec returns (λ c. search needs) returns-2 returns-3)

@@ -8,9 +8,6 @@ use lib.Bits.{bitOr, and-mask, mask-lt, or-shifted}
 use Rattle.tables.proofs.coils.window.Statement.{statement}
 use Rattle.tables.proofs.coils.window.Tie as tie
 
-shr-result : tie.Need-shr-result
-shr-result c = search needs
-
 cast-result : tie.Need-cast-result
 cast-result c = let a = c .args in record { fits = mask-lt (bitOr (a .high * 256 % 65536) (a .low) / 2 ^ a .shift) 8 }
 
@@ -25,4 +22,4 @@ returns c =
     and-mask _ 8 ∙ ap (λ (x : ℕ). x / 2 ^ a .shift % 256) (both (a .low) (a .high) (c .fits .low .fits) (c .fits .high .fits))
 
 pub window-spec : {M : Type 1} → statement M
-window-spec = tie.close (tie.spec shr-result cast-result returns)
+window-spec = tie.close (tie.spec (λ c. search needs) cast-result returns)

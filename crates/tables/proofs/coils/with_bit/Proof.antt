@@ -11,9 +11,6 @@ use Rattle.modbus.proofs.BitLaws.{one-shl, or-bit, and-bit}
 use Rattle.tables.proofs.coils.with_bit.Statement.{statement}
 use Rattle.tables.proofs.coils.with_bit.Tie as tie
 
-shl-mask : tie.Need-shl-mask
-shl-mask c = search needs
-
 returns : tie.Need-returns
 returns c =
     let a = c .before .args in
@@ -29,4 +26,4 @@ returns-2 c =
     ∙ ap (λ (v : Bool). withBit (a .byte) (a .n) (digitOf v)) (sym (c .if1 .left))
 
 pub with-bit-spec : {M : Type 1} → statement M
-with-bit-spec = tie.close (tie.spec shl-mask returns returns-2)
+with-bit-spec = tie.close (tie.spec (λ c. search needs) returns returns-2)

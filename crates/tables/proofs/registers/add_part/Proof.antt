@@ -15,35 +15,8 @@ use Rattle.tables.proofs.registers.add_part.Tie as tie
 returns : tie.Need-returns
 returns c = sym (ap (toldWith _) (added-long registers _ _ _ _ _ _ (omega arith)))
 
-add-end : tie.Need-add-end
-add-end c = search needs
-
-size-requires : tie.Need-size-requires
-size-requires c κs = search needs
-
 returns-2 : tie.Need-returns-2
 returns-2 c = sym (ap (toldWith _) (added-outside registers _ _ _ _ _ _ (omega arith) (omega arith)))
-
-mul-a : tie.Need-mul-a
-mul-a c = search needs
-
-mul-e : tie.Need-mul-e
-mul-e c = search needs
-
-sub-extend : tie.Need-sub-extend
-sub-extend c = search needs
-
-part-extend-start : tie.Need-part-extend-start
-part-extend-start c = search needs
-
-part-extend-end : tie.Need-part-extend-end
-part-extend-end c = search needs
-
-extend-requires : tie.Need-extend-requires
-extend-requires c κs = search needs
-
-same-length : tie.Need-same-length
-same-length c = search needs
 
 returns-3 : tie.Need-returns-3
 returns-3 c =
@@ -62,14 +35,14 @@ add-part-spec =
     tie.close
     (tie.spec
     returns
-    add-end
-    size-requires
+    (λ c. search needs)
+    (λ c κs. search needs)
     returns-2
-    mul-a
-    mul-e
-    sub-extend
-    part-extend-start
-    part-extend-end
-    extend-requires
-    same-length
+    (λ c. search needs)
+    (λ c. search needs)
+    (λ c. search needs)
+    (λ c. search needs)
+    (λ c. search needs)
+    (λ c κs. search needs)
+    (λ c. search needs)
     returns-3)

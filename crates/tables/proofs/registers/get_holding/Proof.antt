@@ -10,21 +10,12 @@ use Rattle.tables.proofs.CallsLaws.{got-inside, got-outside}
 use Rattle.tables.proofs.registers.get_holding.Statement.{statement}
 use Rattle.tables.proofs.registers.get_holding.Tie as tie
 
-size-requires : tie.Need-size-requires
-size-requires c κs = search needs
-
 returns : tie.Need-returns
 returns c = sym (ap told (got-outside registers _ _ _ (omega arith)))
-
-mul-word : tie.Need-mul-word
-mul-word c = search needs
-
-word-requires : tie.Need-word-requires
-word-requires c κs = search needs
 
 returns-2 : tie.Need-returns-2
 unfolding registerAt
 returns-2 c = ap (λ (k : ℕ). (0, k)) (c .word .ensures) ∙ sym (ap told (got-inside registers _ _ _ (omega arith)))
 
 pub get-holding-spec : {M : Type 1} → statement M
-get-holding-spec = tie.close (tie.spec size-requires returns mul-word word-requires returns-2)
+get-holding-spec = tie.close (tie.spec (λ c κs. search needs) returns (λ c. search needs) (λ c κs. search needs) returns-2)

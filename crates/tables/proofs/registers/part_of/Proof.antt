@@ -8,38 +8,8 @@ use Rattle.modbus.proofs.StepLaws.{pick-yes, pick-no}
 use Rattle.tables.proofs.registers.part_of.Statement.{statement}
 use Rattle.tables.proofs.registers.part_of.Tie as tie
 
-add-end : tie.Need-add-end
-add-end c = search needs
-
-size-requires : tie.Need-size-requires
-size-requires c κs = search needs
-
-sub-result : tie.Need-sub-result
-sub-result c = search needs
-
-part-result-start : tie.Need-part-result-start
-part-result-start c = search needs
-
-part-result-end : tie.Need-part-result-end
-part-result-end c = search needs
-
 returns : tie.Need-returns
 returns c = sym (pick-no _ _ _ (λ h. omega arith))
-
-mul-a : tie.Need-mul-a
-mul-a c = search needs
-
-mul-e : tie.Need-mul-e
-mul-e c = search needs
-
-sub-result-2 : tie.Need-sub-result-2
-sub-result-2 c = search needs
-
-part-result-start-2 : tie.Need-part-result-start-2
-part-result-start-2 c = search needs
-
-part-result-end-2 : tie.Need-part-result-end-2
-part-result-end-2 c = search needs
 
 returns-2 : tie.Need-returns-2
 returns-2 c =
@@ -51,15 +21,15 @@ pub part-of-spec : {M : Type 1} → statement M
 part-of-spec =
     tie.close
     (tie.spec
-    add-end
-    size-requires
-    sub-result
-    part-result-start
-    part-result-end
+    (λ c. search needs)
+    (λ c κs. search needs)
+    (λ c. search needs)
+    (λ c. search needs)
+    (λ c. search needs)
     returns
-    mul-a
-    mul-e
-    sub-result-2
-    part-result-start-2
-    part-result-end-2
+    (λ c. search needs)
+    (λ c. search needs)
+    (λ c. search needs)
+    (λ c. search needs)
+    (λ c. search needs)
     returns-2)

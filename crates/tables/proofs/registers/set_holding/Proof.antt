@@ -11,38 +11,11 @@ use Rattle.tables.proofs.CallsLaws.{changed-inside, changed-outside}
 use Rattle.tables.proofs.registers.set_holding.Statement.{statement}
 use Rattle.tables.proofs.registers.set_holding.Tie as tie
 
-size-requires : tie.Need-size-requires
-size-requires c κs = search needs
-
-same-length : tie.Need-same-length
-same-length c = search needs
-
 returns : tie.Need-returns
 returns c = sym (ap (toldWith _) (changed-outside registers _ _ _ _ (omega arith)))
 
-cast-table : tie.Need-cast-table
-cast-table c = search needs
-
-mul-table : tie.Need-mul-table
-mul-table c = search needs
-
-slice-write-table : tie.Need-slice-write-table
-slice-write-table c = search needs
-
-cast-table-2 : tie.Need-cast-table-2
-cast-table-2 c = search needs
-
-mul-table-2 : tie.Need-mul-table-2
-mul-table-2 c = search needs
-
-add-table : tie.Need-add-table
-add-table c = search needs
-
 slice-write-table-2 : tie.Need-slice-write-table-2
 slice-write-table-2 c = simp length-set (omega arith)
-
-same-length-2 : tie.Need-same-length-2
-same-length-2 c = search needs
 
 returns-2 : tie.Need-returns-2
 unfolding putRegister
@@ -52,15 +25,15 @@ pub set-holding-spec : {M : Type 1} → statement M
 set-holding-spec =
     tie.close
     (tie.spec
-    size-requires
-    same-length
+    (λ c κs. search needs)
+    (λ c. search needs)
     returns
-    cast-table
-    mul-table
-    slice-write-table
-    cast-table-2
-    mul-table-2
-    add-table
+    (λ c. search needs)
+    (λ c. search needs)
+    (λ c. search needs)
+    (λ c. search needs)
+    (λ c. search needs)
+    (λ c. search needs)
     slice-write-table-2
-    same-length-2
+    (λ c. search needs)
     returns-2)

@@ -5,13 +5,14 @@ use mathlib.Core.List.{List, [], _++_, append-nil, append-assoc}
 use Prim.Native.Nat.{ℕ, _+_, _-_, _*_, _/_, _≤_, _<_}
 use native.Mathlib.Nat.{zero-add}
 use native.Mathlib.Omega.{arith}
-use lib.ListN.{length, getD, take, drop, length-drop, drop-of-length-le}
+use lib.ListN.{length, getD, take, drop, length-take, length-drop, drop-of-length-le}
 use lib.Seq.{sets, sets-eq, take-all, drop-drop}
 use borrow.Rule.Slice.PartMut.{putMid}
 use borrow.Author.Needs.{needs}
 use Rattle.modbus.specs.Paper.{toldWith}
 use Rattle.modbus.specs.Storage.{registers}
 use Rattle.modbus.proofs.RegisterLaws.{stored-bytes}
+use Rattle.response.proofs.BoundedLaws.{extended-put}
 use Rattle.tables.specs.Calls.{storedWhole}
 use Rattle.tables.proofs.CallsLaws.{stored-outside, stored-unmatched, stored-inside}
 use Rattle.tables.proofs.registers.set_holdings_from_u8.Statement.{statement}
@@ -27,43 +28,13 @@ filled xs vs ys a e h =
     let g : sets xs a vs ≡ take a xs ++ vs ++ drop (a + length vs) xs = sets-eq vs xs a h in
     rw (e, t, d, append-nil, f, g, zero-add, drop-drop, append-assoc)
 
-size-requires : tie.Need-size-requires
-size-requires c κs = search needs
-
-add-if1 : tie.Need-add-if1
-add-if1 c = search needs
-
-same-length : tie.Need-same-length
-same-length c = search needs
-
 returns : tie.Need-returns
 unfolding storedWhole
 returns c = sym (ap (toldWith _) (stored-outside registers _ _ _ _ _ (omega arith)))
 
-same-length-2 : tie.Need-same-length-2
-same-length-2 c = search needs
-
 returns-2 : tie.Need-returns-2
 unfolding storedWhole
 returns-2 c = sym (ap (toldWith _) (stored-unmatched registers _ _ _ _ _ (omega arith) (λ h. omega arith)))
-
-mul-a : tie.Need-mul-a
-mul-a c = search needs
-
-sub-fill : tie.Need-sub-fill
-sub-fill c = search needs
-
-part-fill-start : tie.Need-part-fill-start
-part-fill-start c = search needs
-
-part-fill-end : tie.Need-part-fill-end
-part-fill-end c = search needs
-
-fill-requires : tie.Need-fill-requires
-fill-requires c κs = search needs
-
-same-length-3 : tie.Need-same-length-3
-same-length-3 c = search needs
 
 returns-3 : tie.Need-returns-3
 unfolding storedWhole
@@ -72,23 +43,27 @@ returns-3 c =
     let a = s .before .before .args in
     let b : (i : ℕ) → getD (a .values .now) i 0 < 256 = λ i. omega (arith, s .shared-slice-known .given i) in
     let e = stored-bytes (a .table .now) (a .reg) (length (a .values .now) / 2) (a .values .now) (omega arith) b in
-    let f = filled (a .table .now) (a .values .now) _ (2 * a .reg) (c .before .before .fill .ensures) (omega arith) in
+    let p = c .before .before .extend in
+    let part = take (length (a .table .now) - 2 * a .reg) (drop (2 * a .reg) (a .table .now)) in
+    let n : length part ≡ length (a .table .now) - 2 * a .reg = simp (length-take, length-drop) (omega arith) in
+    let q = extended-put part (a .values .now) _ 0 (p .result) (p .ensures) (omega arith) in
+    let f = filled (a .table .now) (a .values .now) _ (2 * a .reg) q (omega arith) in
     rw (f, ← e) (sym (ap (toldWith _) (stored-inside registers _ _ _ _ _ (omega arith) (omega arith))))
 
 pub set-holdings-from-u8-spec : {M : Type 1} → statement M
 set-holdings-from-u8-spec =
     tie.close
     (tie.spec
-    size-requires
-    add-if1
-    same-length
+    (λ c κs. search needs)
+    (λ c. search needs)
+    (λ c. search needs)
     returns
-    same-length-2
+    (λ c. search needs)
     returns-2
-    mul-a
-    sub-fill
-    part-fill-start
-    part-fill-end
-    fill-requires
-    same-length-3
+    (λ c. search needs)
+    (λ c. search needs)
+    (λ c. search needs)
+    (λ c. search needs)
+    (λ c κs. search needs)
+    (λ c. search needs)
     returns-3)

@@ -11,9 +11,6 @@ use Rattle.tables.proofs.registers.size.Tie as tie
 returns : tie.Need-returns
 returns c = (sym (size-unsound registers _ _ (λ h. omega arith)), omega arith)
 
-mul-if2 : tie.Need-mul-if2
-mul-if2 c = search needs
-
 returns-2 : tie.Need-returns-2
 returns-2 c = (sym (size-unsound registers _ _ (λ h. omega arith)), omega arith)
 
@@ -21,4 +18,4 @@ returns-3 : tie.Need-returns-3
 returns-3 c = (sym (size-sound registers _ _ (omega arith, omega arith)), omega arith)
 
 pub size-spec : {M : Type 1} → statement M
-size-spec = tie.close (tie.spec returns mul-if2 returns-2 returns-3)
+size-spec = tie.close (tie.spec returns (λ c. search needs) returns-2 returns-3)

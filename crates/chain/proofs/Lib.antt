@@ -1,0 +1,13 @@
+pub mod Shared
+pub mod Response
+pub mod Laid
+pub mod Parsed
+pub mod Processed
+pub mod Finished
+pub mod Carried
+pub mod Faults
+pub mod Verdicts
+pub mod Served
+pub mod Excepted
+pub mod Alike
+pub mod Differences

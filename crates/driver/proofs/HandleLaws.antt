@@ -1,0 +1,63 @@
+-- A body that is judged, served and closed.
+-- Assumes nothing.
+use mathlib.Core.Bool.{Bool, true, false}
+use mathlib.Core.Path.{_≡_, refl, ap, _∙_}
+use mathlib.Core.List.{List}
+use Prim.Native.Nat.{ℕ, _+_, _≤_, _<_}
+use native.Mathlib.Omega.{arith}
+use lib.ListN.{length, getD}
+use lib.Seq.{length-sets}
+use Rattle.modbus.specs.Step.{choose, _≟_, _or?_}
+use Rattle.modbus.specs.Frame.{tagOf, startOf}
+use Rattle.modbus.specs.Paper.{protoOf}
+use Rattle.modbus.specs.Setup.{Setup, roomFor}
+use Rattle.modbus.specs.Unit.{listed?}
+use Rattle.modbus.specs.declared.ModbusProto.{ModbusProto}
+use Rattle.modbus.specs.declared.ModbusProto.the-variants.{Rtu, Ascii, TcpUdp}
+use Rattle.tables.specs.Lent.{Lent}
+use Rattle.requests.specs.Judged.{on?, judged}
+use Rattle.requests.specs.declared.Verdict.{Verdict}
+use Rattle.requests.specs.declared.Verdict.the-variants.{Quiet}
+use Rattle.driver.specs.declared.Setup.{Setup as Numbers}
+use Rattle.driver.specs.declared.Driven.{Driven}
+use Rattle.driver.specs.Driven.{lentIn, setupOf, Leaves, leaving}
+use Rattle.driver.specs.Serving.{Counted, Ready, serving, laid, closing, handled}
+use Rattle.driver.proofs.CloseLaws.{tag-length, closes}
+use Rattle.driver.proofs.SettleLaws.{judged-ready, settles, brief}
+
+-- the longest body has room from its start on
+pub start-room : (p : ModbusProto) (reply : List ℕ) → roomFor p ≤ length reply → startOf p + 253 ≤ length reply
+start-room Rtu reply h = omega arith
+start-room Ascii reply h = omega arith
+start-room TcpUdp reply h = omega arith
+
+-- what was found of the body: its bytes, whether its unit is listed, the verdict
+module _ (n : Numbers) (list c d h i reply b : List ℕ) (y : (k : ℕ) → getD b k 0 < 256) (two : 2 ≤ length b)
+    (x : Bool) (e : x ≡ choose (listed? (getD b 0 0) list) true false)
+    (v : Verdict) (j : (s : Setup) → Counted s n → v ≡ choose (on? x or? (getD b 0 0 ≟ n .unit)) (judged s x b) (Quiet 4 0)) where
+  abbrev l : Lent
+  l = lentIn n c d h i
+
+  abbrev p : ModbusProto
+  p = protoOf (n .transport)
+
+  judges : v ≡ choose (on? x or? (getD b 0 0 ≟ n .unit)) (judged (setupOf n list l reply) x b) (Quiet 4 0)
+  judges = j (setupOf n list l reply) (refl, refl, refl, refl)
+
+  pub body-ready : Ready l b v
+  body-ready = judged-ready n list l reply b b y x e v judges two
+
+  -- and of what was served: the result, the reply, the coils and the holdings
+  module _ (start : ℕ) (z : start ≡ startOf p) (r : Driven) (o c' h' : List ℕ) (f : leaving r o c' h' ≡ laid start reply (serving l x b v)) where
+    pub served-brief : r .length ≤ 253
+    served-brief = rw (ap (λ (g : Leaves). g .result .length) f) (brief l x b v body-ready)
+
+    pub served-room : roomFor p ≤ length reply → roomFor p ≤ length o
+    served-room k = rw (ap (λ (g : Leaves). g .replyBytes) f, length-sets) k
+
+    pub closed-handled : (high low : ℕ) → roomFor p ≤ length reply → (q : Driven) (w : List ℕ)
+        → _≡_ {A = Driven × List ℕ} (q, w) (closing p (tagOf p high low) r o (r .length))
+        → leaving q w c' h' ≡ handled n list (tagOf p high low) b l reply
+    closed-handled high low room q w g =
+        closes p (tagOf p high low) reply (tag-length p high low) room (serving l x b v) (brief l x b v body-ready) r o c' h' (rw z at f) q w g
+        ∙ settles n list l reply (tagOf p high low) b y x e v judges

@@ -1,0 +1,257 @@
+-- What a verdict is carried out to is what the definition settles.
+-- Assumes nothing.
+use mathlib.Core.Bool.{Bool, true, false}
+use mathlib.Core.Logic.{_⊎_, inl, inr, ⊎-elim, by-cases}
+use mathlib.Core.Path.{_≡_, refl, sym, ap, subst, _∙_}
+use mathlib.Core.List.{List, [], _∷_}
+use Prim.Native.Nat.{ℕ, _+_, _≤_, _<_}
+use native.Mathlib.Omega.{arith}
+use lib.ListN.{length, take, getD, length-take}
+use lib.Seq.{sets}
+use Rattle.modbus.specs.Step.{Step, stop, go, choose, _≟_, _or?_}
+use Rattle.modbus.specs.Table.{Kind, bit, word, Tab, coils, discretes, holdings, inputs, kindOf, target, part}
+use Rattle.modbus.specs.Request.{Fn, reads, code, Ask, read, octets, shown, answer, seen, found, apply}
+use Rattle.modbus.specs.Setup.{Setup, proto}
+use Rattle.modbus.specs.Unit.{listed?, Broadcast, broadcast?, Ours}
+use Rattle.modbus.specs.Decode.{Message, foreign, readIgnored, wrongLength, badFunction, outcomeOf, IsRead, asked}
+use Rattle.modbus.specs.Drive.{Fault, quiet, coded, Result, fromUnit, settle}
+use Rattle.modbus.proofs.StepLaws.{pass, fail, follow, halt, bound-stop, needed-stop, pick-yes, pick-no, picked}
+use Rattle.modbus.proofs.FindLaws.{code-low, find-fn, found-fn, found-none, found-fault, find-none}
+use Rattle.modbus.proofs.BytesLaws.{bytes-by}
+use Rattle.modbus.proofs.RequestLaws.{asked-says}
+use Rattle.modbus.proofs.StorageLaws.{length-part}
+use Rattle.modbus.proofs.AnswerLaws.{length-shown}
+use Rattle.modbus.specs.Storage.{storage, store}
+use Rattle.tables.specs.Lent.{Lent, tableOf, tablesOf}
+use Rattle.requests.specs.Judged.{tabOf, On, on?, refusedBy, ignored, weighed, kept, keptBy, judged}
+use Rattle.requests.specs.declared.ReadCells.{ReadCells}
+use Rattle.requests.specs.declared.Cells.{Cells}
+use Rattle.requests.specs.declared.Write.the-variants.{Bits, Words}
+use Rattle.requests.specs.declared.Verdict.{Verdict}
+use Rattle.requests.specs.declared.Verdict.the-variants.{Read, Written, Refused, Quiet}
+use Rattle.requests.proofs.JudgedLaws.{on, off, tab-of}
+use Rattle.requests.proofs.FineLaws.{went, FineRead, FineWrite, Fine, fine}
+use Rattle.driver.specs.declared.Setup.{Setup as Numbers}
+use Rattle.driver.specs.Driven.{setupOf, bytesAfter, resultOf, Leaves, leaving, settled}
+use Rattle.driver.specs.Serving.{ReadReady, Ready, readBody, dataOf, echoed, doneBy, Turn, turn, serving}
+use Rattle.driver.proofs.ReadLaws.{octets-most}
+use Rattle.driver.proofs.StoreLaws.{stored-target, stored-other, echoes}
+use Rattle.driver.proofs.CloseLaws.{closed}
+
+-- ---- a verdict is ready to be carried out
+
+read-range : (t : Tab) → (1 ≤ code (reads t)) × (code (reads t) ≤ 4)
+read-range coils = omega arith
+read-range discretes = omega arith
+read-range holdings = omega arith
+read-range inputs = omega arith
+
+module _ (n : Numbers) (list : List ℕ) (l : Lent) (reply : List ℕ) (x : Bool) (b : List ℕ) where
+  pub ready : (v : Verdict) → Fine (setupOf n list l reply) x b v → 2 ≤ length b → Ready l b v
+  ready (Read q) f h =
+      let e : tabOf (q .function) ≡ f .tab = ap tabOf (f .function) ∙ tab-of (f .tab) in
+      let r = read-range (f .tab) in
+      record { first = rw (f .function) (r .0); last = rw (f .function) (r .1); most = rw e (f .most); inside = rw e (f .inside); whole = h }
+  ready (Written (Bits c)) f h = record { inside = f .inside; held = f .held; single = f .single; whole = f .whole }
+  ready (Written (Words c)) f h = record { inside = f .inside; held = f .held; single = f .single; whole = f .whole }
+  ready (Refused c) f h = (h, f .1)
+  ready (Quiet o c) f h = tt
+
+-- and its reply's body fits every frame
+pub brief : (l : Lent) (x : Bool) (b : List ℕ) (v : Verdict) → Ready l b v → length (serving l x b v .body) ≤ 253
+brief l x b (Read q) r =
+    let t = tabOf (q .function) in
+    let vs = part (tablesOf l t) (q .address) (q .count) in
+    omega (arith, octets-most (kindOf t) (q .count) (r .most), shown-length t (q .address) (q .count) (tablesOf l t))
+  where
+    shown-length : (t : Tab) (s n : ℕ) (f : ℕ → ℕ) → length (shown (kindOf t) (part f s n)) ≡ octets (kindOf t) n
+    shown-length t s n f = length-shown (kindOf t) (part f s n) ∙ ap (octets (kindOf t)) (length-part f s n)
+brief l true b (Written w) r = omega arith
+brief l false b (Written w) r = simp length-take (omega arith)
+brief l x b (Refused c) r = omega arith
+brief l x b (Quiet o c) r = omega arith
+
+-- ---- whom the unit number means
+
+-- a broadcast number or ours, and `x` says which
+abbrev Addressed : Setup → ℕ → Bool → Type 0
+Addressed s u x = (Broadcast s u × (x ≡ true)) ⊎ ((¬ Broadcast s u) × Ours s u × (x ≡ false))
+
+module _ (n : Numbers) (list : List ℕ) (l : Lent) (reply : List ℕ) (to : ℕ) (x : Bool) (e : x ≡ choose (listed? to list) true false) where
+  meant-not : ¬ (On x ⊎ (to ≡ n .unit)) → ¬ (Broadcast (setupOf n list l reply) to ⊎ Ours (setupOf n list l reply) to)
+  unfolding Broadcast Ours
+  meant-not k (inl p) = k (inl (on x (e ∙ pick-yes _ _ _ p)))
+  meant-not k (inr p) = k (inr p)
+
+  meant : On x ⊎ (to ≡ n .unit) → Addressed (setupOf n list l reply) to x
+  unfolding Broadcast Ours
+  meant m = picked _ _ _ (sym e) (λ p q. inl (p, sym q)) (λ k q. inr (k, own m (sym q), sym q))
+    where
+      own : On x ⊎ (to ≡ n .unit) → x ≡ false → to ≡ n .unit
+      own (inl o) q = absurd (off x q o)
+      own (inr p) q = p
+
+-- ---- the definition from the unit on
+
+module _ (n : Numbers) (list : List ℕ) (l : Lent) (reply tag b : List ℕ) where
+  abbrev set : Setup
+  set = setupOf n list l reply
+
+  abbrev message : Message
+  message = record { tag = tag; body = b }
+
+  abbrev done : Turn → Leaves
+  done t = closed (proto set) tag reply t
+
+  abbrev kept-leaving : Result → Leaves
+  kept-leaving r = leaving (resultOf r) (sets reply 0 (r .reply)) (l .coilBytes) (l .holdingBytes)
+
+  unmeant : (x : Bool) → ¬ (Broadcast set (getD b 0 0) ⊎ Ours set (getD b 0 0))
+      → settled set l reply (fromUnit set message) ≡ done (serving l x b (Quiet 4 0))
+  unfolding settle
+  unmeant x k = ap (settled set l reply) (fail _ _ _ k)
+
+  -- what is served
+
+  abbrev answered : Bool → Ask → List ℕ
+  answered true a = []
+  answered false a = getD b 0 0 ∷ answer a (found a (seen (apply a (tablesOf l))))
+
+  abbrev served : Bool → Ask → Turn
+  served x a = turn (doneBy x) 0 (answered x a) (bytesAfter l a coils) (bytesAfter l a holdings)
+
+  abbrev leaving-after : Ask → Result → Leaves
+  leaving-after a r = leaving (resultOf r) (sets reply 0 (r .reply)) (bytesAfter l a coils) (bytesAfter l a holdings)
+
+  go-done : (x : Bool) (a : Ask) → Addressed set (getD b 0 0) x → settled set l reply (go (message, a)) ≡ done (served x a)
+  unfolding settle
+  go-done x a (inl (p, e)) = rw e (ap (leaving-after a) (pick-yes _ _ _ p))
+  go-done x a (inr (p, q, e)) = rw e (ap (leaving-after a) (pick-no _ _ _ p))
+
+  -- a fault with a code
+  coded-done : (x : Bool) (c : ℕ) → Addressed set (getD b 0 0) x → settled set l reply (stop (coded message c)) ≡ done (serving l x b (refusedBy x c))
+  unfolding settle
+  coded-done x c (inl (p, e)) = rw e (ap kept-leaving (pick-yes _ _ _ p))
+  coded-done x c (inr (p, q, e)) = rw e (ap kept-leaving (pick-no _ _ _ p))
+
+  module _ (x : Bool) (to : Addressed set (getD b 0 0) x) where
+    heard : Broadcast set (getD b 0 0) ⊎ Ours set (getD b 0 0)
+    heard = ⊎-elim (λ p. inl (p .0)) (λ p. inr (p .1)) to
+
+    is-on : Broadcast set (getD b 0 0) → On x
+    is-on h = ⊎-elim (λ p. on x (p .1)) (λ p. absurd (p .0 h)) to
+
+    is-broadcast : On x → Broadcast set (getD b 0 0)
+    is-broadcast h = ⊎-elim (λ p. p .0) (λ p. absurd (off x (p .2) h)) to
+
+    heeded : (fn : Fn) → ¬ (On x × IsRead fn) → ¬ (Broadcast set (getD b 0 0) × IsRead fn)
+    heeded fn o h = o (is-on (h .0), h .1)
+
+    stops : {v : Verdict} (f : Fault) (w : Verdict) → settled set l reply (stop f) ≡ done (serving l x b w) → fromUnit set message ≡ stop f → w ≡ v
+        → settled set l reply (fromUnit set message) ≡ done (serving l x b v)
+    stops f w d e q = ap (settled set l reply) e ∙ d ∙ ap (λ (w : Verdict). done (serving l x b w)) q
+
+    unit-stop : {v : Verdict} → weighed set x b ≡ stop v → settled set l reply (fromUnit set message) ≡ done (serving l x b v)
+    unfolding weighed settle
+    unit-stop {v} e =
+        needed-stop _ _ _ e (λ k q. stops (quiet badFunction) _ refl (pass _ _ _ heard ∙ fail _ _ _ k) q)
+        λ p e₁. bound-stop _ _ e₁
+        (λ q.
+        let none = found-none code _ _ _ (λ fn z. find-fn _ _ (proto set) fn z) q in
+        stops (coded message 1) (refusedBy x 1) (coded-done x 1 to) (pass _ _ _ heard ∙ pass _ _ _ p ∙ halt _ _ (find-none code _ _ none _))
+        (found-fault code _ _ _ q))
+        λ fn q e₂.
+        let f = pass _ _ _ heard ∙ pass _ _ _ p ∙ follow _ _ (find-fn _ _ (proto set) fn (found-fn code _ _ _ fn q)) in
+        needed-stop _ _ _ e₂
+        (λ k r. stops (quiet readIgnored) ignored refl (f ∙ fail _ _ _ (λ h. k (λ g. h (is-broadcast (g .0), g .1)))) r)
+        λ o e₃. needed-stop _ _ _ e₃
+        (λ k r. stops (quiet wrongLength) _ refl (f ∙ pass _ _ _ (heeded fn o) ∙ fail _ _ _ k) r)
+        λ y e₄. needed-stop _ _ _ e₄
+        (λ k r. stops (coded message 3) (refusedBy x 3) (coded-done x 3 to) (f ∙ pass _ _ _ (heeded fn o) ∙ pass _ _ _ y ∙ fail _ _ _ k) r)
+        λ w e₅. needed-stop _ _ _ e₅
+        (λ k r.
+        stops (coded message 2) (refusedBy x 2) (coded-done x 2 to) (f ∙ pass _ _ _ (heeded fn o) ∙ pass _ _ _ y ∙ pass _ _ _ w ∙ fail _ _ _ k) r)
+        λ i e₆. let z : _≡_ {A = ℕ} 0 1 = cc in absurd (omega arith)
+
+    unit-go : {a : Ask} → weighed set x b ≡ go a → fromUnit set message ≡ go (message, a)
+    unit-go {a} e =
+        went set x b e λ fn p o y w i z.
+        pass _ _ _ heard
+        ∙ pass _ _ _ (omega (arith, code-low fn))
+        ∙ follow _ _ (find-fn _ _ (proto set) fn p)
+        ∙ pass _ _ _ (heeded fn o)
+        ∙ pass _ _ _ y
+        ∙ pass _ _ _ w
+        ∙ pass _ _ _ (rw z i)
+        ∙ ap (λ (a : Ask). go (message, a)) z
+
+  -- ---- by what the verdict promises
+
+  read-serves : (x : Bool) (q : ReadCells) (f : FineRead set x b q) → served x (read (f .tab) (q .address) (q .count)) ≡ serving l x b (Read q)
+  read-serves true q f = absurd (f .own tt)
+  read-serves false q f =
+      let e : tabOf (q .function) ≡ f .tab = ap tabOf (f .function) ∙ tab-of (f .tab) in
+      let n = length-part (tablesOf l (f .tab)) (q .address) (q .count) in
+      ap (λ (y : List ℕ). turn 0 0 y (l .coilBytes) (l .holdingBytes)) (rw (e, f .numbered, n))
+
+  module _ (bytes : (i : ℕ) → getD b i 0 < 256) (k : Kind) (x : Bool) (c : Cells) (f : FineWrite k set x b c) where
+    write-echoed : (x : Bool) → answered x (asked (f .fn) b) ≡ echoed x b
+    write-echoed true = refl
+    write-echoed false =
+        sym (echoes k (c .address) _ (asked (f .fn) b) b _ (f .stores) (asked-says (f .fn) b (bytes-by b bytes) (f .numbered) (f .lengthy) (f .valued)))
+
+    pub write-target : bytesAfter l (asked (f .fn) b) (target k) ≡ store (storage (target k)) (tableOf l (target k)) (c .address) (dataOf k b c)
+    write-target = stored-target l k (c .address) (dataOf k b c) (asked (f .fn) b) (f .stores)
+
+    pub write-other : (t : Tab) → ¬ (t ≡ target k) → bytesAfter l (asked (f .fn) b) t ≡ tableOf l t
+    write-other t n = stored-other l k (c .address) (dataOf k b c) (asked (f .fn) b) (f .stores) t n
+
+  apart : ¬ (coils ≡ holdings)
+  apart e = let z : _≡_ {A = ℕ} 0 1 = cc in omega arith
+
+  -- outcome and code of a write, its echo, and the bytes of two tables
+  four : (x : Bool) {p p' c c' h h' : List ℕ} → p ≡ p' → c ≡ c' → h ≡ h' → turn (doneBy x) 0 p c h ≡ turn (doneBy x) 0 p' c' h'
+  four x e f g = rw (e, f, g)
+
+  serves : ((i : ℕ) → getD b i 0 < 256) → (x : Bool) (v : Verdict) → Fine set x b v → (a : Ask) → weighed set x b ≡ go a
+      → served x a ≡ serving l x b v
+  serves bytes x (Read q) f a e =
+      let z : a ≡ read (f .tab) (q .address) (q .count) = let g = f .goes in cc in
+      ap (served x) z ∙ read-serves x q f
+  serves bytes x (Written (Bits c)) f a e =
+      let z : a ≡ asked (f .fn) b = let g = f .goes in cc in
+      ap (served x) z
+      ∙ four x (write-echoed bytes bit x c f x) (write-target bytes bit x c f) (write-other bytes bit x c f holdings (λ h. apart (sym h)))
+  serves bytes x (Written (Words c)) f a e =
+      let z : a ≡ asked (f .fn) b = let g = f .goes in cc in
+      ap (served x) z ∙ four x (write-echoed bytes word x c f x) (write-other bytes word x c f coils apart) (write-target bytes word x c f)
+  serves bytes x (Refused c) f a e = let g = f .0 in let z : _≡_ {A = ℕ} 0 1 = cc in absurd (omega arith)
+  serves bytes x (Quiet o c) f a e = let z : _≡_ {A = ℕ} 0 1 = cc in absurd (omega arith)
+
+  -- what was judged of a body, by whom its unit number means
+  module _ (bytes : (i : ℕ) → getD b i 0 < 256) (x : Bool) (listed : x ≡ choose (listed? (getD b 0 0) list) true false) (v : Verdict)
+      (judges : v ≡ choose (on? x or? (getD b 0 0 ≟ n .unit)) (judged set x b) (Quiet 4 0)) where
+    settles-to : Addressed set (getD b 0 0) x → (w : Step Verdict Ask) → weighed set x b ≡ w
+        → settled set l reply (fromUnit set message) ≡ done (serving l x b (keptBy w))
+    unfolding judged
+    settles-to to (stop u) e = unit-stop x to e
+    settles-to to (go a) e =
+        let f : Fine set x b (kept a) = fine set x b bytes {r = judged set x b} refl (ap keptBy e) in
+        ap (settled set l reply) (unit-go x to e) ∙ go-done x a to ∙ ap done (serves bytes x (kept a) f a e)
+
+    pub settles : done (serving l x b v) ≡ settled set l reply (fromUnit set message)
+    unfolding judged
+    settles =
+        by-cases (on? x or? (getD b 0 0 ≟ n .unit))
+        (λ h.
+        ap (λ (u : Verdict). done (serving l x b u)) (judges ∙ pick-yes _ _ _ h)
+        ∙ sym (settles-to (meant n list l reply (getD b 0 0) x listed h) (weighed set x b) refl))
+        (λ k.
+        ap (λ (u : Verdict). done (serving l x b u)) (judges ∙ pick-no _ _ _ k)
+        ∙ sym (unmeant x (meant-not n list l reply (getD b 0 0) x listed k)))
+
+    pub judged-ready : 2 ≤ length b → Ready l b v
+    judged-ready h =
+        by-cases (on? x or? (getD b 0 0 ≟ n .unit))
+        (λ m. ready n list l reply x b v (fine set x b bytes {r = v} (judges ∙ pick-yes _ _ _ m) refl) h)
+        (λ k. subst (Ready l b) (sym (judges ∙ pick-no _ _ _ k)) tt)

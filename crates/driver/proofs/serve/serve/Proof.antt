@@ -1,0 +1,77 @@
+-- `driver::serve::serve` meets its contract, verdict by verdict.
+-- Assumes nothing.
+use mathlib.Core.Path.{ap, subst}
+use mathlib.Core.List.{_∷_}
+use native.Mathlib.Omega.{arith}
+use lib.ListN.{getD}
+use borrow.Author.Needs.{needs}
+use Rattle.modbus.specs.Table.{coils, holdings}
+use Rattle.modbus.specs.Request.{exception}
+use Rattle.driver.specs.declared.Driven.{Driven}
+use Rattle.driver.specs.Driven.{lentIn, leaving}
+use Rattle.requests.specs.Judged.{tabOf}
+use Rattle.driver.specs.Serving.{Ready, readBody}
+use Rattle.driver.proofs.ServeLaws.{write-ready, write-whole, replied, wrote}
+use Rattle.driver.proofs.serve.serve.Statement.{statement}
+use Rattle.driver.proofs.serve.serve.Tie as tie
+
+read-requires : tie.Need-read-requires
+read-requires c κs =
+    let s = c .before .before .before .before .before .before .before .before .before .before .before .before in
+    let a = s .args in
+    let l = lentIn (a .setup) (a .coils .now) (a .discretes .now) (a .holdings .now) (a .inputs .now) in
+    let r = subst (Ready l (a .body .now)) (c .before .before .before .before .v .given .1) (s .pre .0 .0) in
+    ((r, s .pre .0 .1), s .pre .1)
+
+write-requires : tie.Need-write-requires
+write-requires c κs =
+    let s = c .before .before .before .before .before .before .before .before .before .before .before in
+    let a = s .args in
+    let l = lentIn (a .setup) (a .coils .now) (a .discretes .now) (a .holdings .now) (a .inputs .now) in
+    let r = subst (Ready l (a .body .now)) (c .before .before .before .v2 .given .1) (s .pre .0 .0) in
+    (write-ready (a .setup) (a .coils .now) (a .discretes .now) (a .holdings .now) (a .inputs .now) (a .body .now) (c .before .before .before .v2 .given .0 .0) r, (s .pre .1 coils, s .pre .1 holdings))
+
+written-requires : tie.Need-written-requires
+written-requires c κs =
+    let s = c .before .before .before .before .before .before .before .before .before .before .before .before .before .before .before .before .before in
+    let a = s .args in
+    let l = lentIn (a .setup) (a .coils .now) (a .discretes .now) (a .holdings .now) (a .inputs .now) in
+    let r = subst (Ready l (a .body .now)) (c .before .before .before .before .before .before .before .before .before .v2 .given .1) (s .pre .0 .0) in
+    (write-whole l (a .body .now) (c .before .before .before .before .before .before .before .before .before .v2 .given .0 .0) r, omega (arith, s .pre .0 .1))
+
+refuse-requires : tie.Need-refuse-requires
+refuse-requires c κs =
+    let s = c .before .before .before .before .before .before .before .before .before .before in
+    let a = s .args in
+    let l = lentIn (a .setup) (a .coils .now) (a .discretes .now) (a .holdings .now) (a .inputs .now) in
+    let r = subst (Ready l (a .body .now)) (c .before .before .v3 .given .1) (s .pre .0 .0) in
+    (r .0, r .1, omega (arith, s .pre .0 .1))
+
+returns : tie.Need-returns
+returns c =
+    let a = c .before .before .before .before .before .before .before .before .before .before .before .before .before .before .before .before .args in
+    let l = lentIn (a .setup) (a .coils .now) (a .discretes .now) (a .holdings .now) (a .inputs .now) in
+    let q = c .before .before .before .before .before .before .before .before .v .given .0 .0 in
+    let x = readBody l (tabOf (q .function)) (a .body .now) (q .address) (q .count) in
+    rw (c .before .before .before .before .before .before .before .before .v .given .1) (replied (a .start) (a .reply .now) (a .coils .now) (a .holdings .now) x 0 0 _ _ (c .result .ensures) (c .before .before .before .read .ensures))
+
+returns-2 : tie.Need-returns-2
+returns-2 c =
+    let a = c .before .before .before .before .before .before .before .before .before .before .before .before .before .before .before .before .before .before .before .before .args in
+    let l = lentIn (a .setup) (a .coils .now) (a .discretes .now) (a .holdings .now) (a .inputs .now) in
+    rw (c .before .before .before .before .before .before .before .before .before .before .before .before .v2 .given .1) (wrote l (a .start) (a .reply .now) (a .broadcast) (a .body .now) (c .before .before .before .before .before .before .before .before .before .before .before .before .v2 .given .0 .0) _ _ (c .before .before .written .ensures) (c .before .before .before .before .before .before .before .before .write .ensures))
+
+returns-3 : tie.Need-returns-3
+returns-3 c =
+    let a = c .before .before .before .before .before .before .before .before .before .before .before .before .before .before .args in
+    let k = c .before .before .before .before .before .before .v3 .given .0 .0 in
+    let x = getD (a .body .now) 0 0 ∷ exception (getD (a .body .now) 1 0) k in
+    rw (c .before .before .before .before .before .before .v3 .given .1) (replied (a .start) (a .reply .now) (a .coils .now) (a .holdings .now) x 2 k _ _ (c .result2 .ensures) (c .before .before .before .refuse .ensures))
+
+returns-4 : tie.Need-returns-4
+returns-4 c =
+    let a = c .before .before .before .before .before .before .before .before .before .before .args in
+    rw (c .before .before .v4 .given .1) (ap (λ (d : Driven). leaving d (a .reply .now) (a .coils .now) (a .holdings .now)) (c .result3 .ensures))
+
+pub serve-spec : {M : Type 1} → statement M
+serve-spec = tie.close (tie.spec (λ c. search needs) read-requires (λ c κs. search needs) (λ c. search needs) write-requires written-requires (λ c. search needs) refuse-requires (λ c κs. search needs) (λ c. search needs) (λ c κs. search needs) (λ c. search needs) (λ c. search needs) (λ c. search needs) returns (λ c. search needs) (λ c. search needs) (λ c. search needs) returns-2 (λ c. search needs) returns-3 returns-4)

@@ -1,3 +1,0 @@
-pub mod Opened
-pub mod Checked
-pub mod Lines

@@ -1,0 +1,74 @@
+-- What a body comes to, as the driver keeps it: document 01's order from the function to the address, and the cells that a request names.
+-- Assumes nothing.
+use mathlib.Core.Bool.{Bool, true, false}
+use mathlib.Core.List.{List}
+use Prim.Native.Nat.{ℕ, zero, suc}
+use lib.ListN.{length, getD}
+use Rattle.modbus.specs.Step.{Step, stop, go, _>>=_, _>>_, need, _≤?_, _and?_, not?}
+use Rattle.modbus.specs.Table.{Kind, bit, word, Tab, coils, discretes, holdings, inputs}
+use Rattle.modbus.specs.Request.{reads, code, offered, Ask, read, write, writes}
+use Rattle.modbus.specs.Setup.{Setup, proto}
+use Rattle.modbus.specs.Decode.{readIgnored, wrongLength, badFunction, outcomeOf, isRead?, lengthy?, valued?, asked}
+use Rattle.modbus.specs.Drive.{find, inside?}
+use Rattle.requests.specs.declared.Cells.{Cells}
+use Rattle.requests.specs.declared.Write.{Write}
+use Rattle.requests.specs.declared.Write.the-variants.{Bits, Words}
+use Rattle.requests.specs.declared.Verdict.{Verdict}
+use Rattle.requests.specs.declared.Verdict.the-variants.{Read, Written, Refused, Quiet}
+
+abbrev pub On : Bool → Type 0
+On true = Unit {0}
+On false = ⊥
+
+unfoldable pub on? : (b : Bool) → Dec (On b)
+on? true = yes tt
+on? false = no (λ h. h)
+
+-- a fault with a code: an exception from our own unit; on a broadcast number it is ignored, and nothing is sent
+abbrev pub refusedBy : Bool → ℕ → Verdict
+refusedBy true c = Quiet 3 c
+refusedBy false c = Refused c
+
+abbrev pub ignored : Verdict
+ignored = Quiet (outcomeOf readIgnored) 0
+
+-- what the body asks, or its first fault
+unfoldable pub weighed : Setup → Bool → List ℕ → Step Verdict Ask
+weighed s broadcast b = do
+  need (getD b 1 0 ≤? 127) (Quiet (outcomeOf badFunction) 0)
+  fn ← find code (refusedBy broadcast 1) (getD b 1 0) (offered (proto s))
+  need (not? (on? broadcast and? isRead? fn)) ignored
+  need (lengthy? fn b) (Quiet (outcomeOf wrongLength) 0)
+  need (valued? fn b) (refusedBy broadcast 3)
+  need (inside? s (asked fn b)) (refusedBy broadcast 2)
+  go (asked fn b)
+
+-- the table that a read's number names
+abbrev pub tabOf : ℕ → Tab
+tabOf zero = inputs
+tabOf (suc zero) = coils
+tabOf (suc (suc zero)) = discretes
+tabOf (suc (suc (suc zero))) = holdings
+tabOf (suc (suc (suc (suc n)))) = inputs
+
+-- bits or words
+abbrev pub kindBy : Bool → Kind
+kindBy true = bit
+kindBy false = word
+
+abbrev pub writeOf : Kind → Cells → Write
+writeOf bit c = Bits c
+writeOf word c = Words c
+
+-- the cells it names, and where its data stand in the body: a single value at 4, many after the byte count at 7
+abbrev pub kept : Ask → Verdict
+kept (read t s n) = Read (record { function = code (reads t); address = s; count = n })
+kept (write k a v) = Written (writeOf k (record { address = a; count = 1; at = 4 }))
+kept (writes k s vs) = Written (writeOf k (record { address = s; count = length vs; at = 7 }))
+
+abbrev pub keptBy : Step Verdict Ask → Verdict
+keptBy (stop v) = v
+keptBy (go a) = kept a
+
+unfoldable pub judged : Setup → Bool → List ℕ → Verdict
+judged s broadcast b = keptBy (weighed s broadcast b)

@@ -1,0 +1,9 @@
+pub mod ProtoLaws
+pub mod TextLaws
+pub mod CheckedLaws
+pub mod OpenedLaws
+pub mod AsciiLaws
+pub mod LinesLaws
+pub mod AnswerLaws
+pub mod SealedLaws
+pub mod Unique

@@ -1,0 +1,4 @@
+pub mod Opened
+pub mod Sealed
+pub mod Checked
+pub mod Lines

@@ -1,0 +1,73 @@
+"""Requests to the server and their replies, over each transport."""
+from preset import Preset, READ, exchange
+from serving import Client, Line, Server, ascii_line, asked, check, rtu, soon, tcp, words
+
+
+def rows(most_coils, most_registers):
+    """Every function on the preset tables, the exceptions, the edges; what is asked, and the reply or b"" for none.
+    Reads after the writes look at what was stored."""
+    coils = bytes(n * 37 % 256 for n in range(most_coils // 8))
+    registers = words(*(n * 517 for n in range(most_registers)))
+    return (
+        (asked(3, 0, 4), bytes([1, 3, 8]) + words(258, 772, 0, 65535)),
+        (asked(4, 0, 2), bytes([1, 4, 4]) + words(17, 0x1234)),
+        (asked(4, 999, 1), bytes([1, 4, 2]) + words(65535)),
+        (asked(2, 0, 5), bytes([1, 2, 1, 0b01101])),
+        (asked(2, 997, 3), bytes([1, 2, 1, 0b101])),
+        (asked(1, 7, 4), bytes([1, 1, 1, 0b0110])),
+        (asked(5, 3, 0xFF00), asked(5, 3, 0xFF00)),
+        (asked(15, 4, 3, b"\x05"), asked(15, 4, 3)),
+        (asked(1, 0, 16), bytes([1, 1, 2, 0b01011000, 0b11])),
+        (asked(6, 2, 0xABCD), asked(6, 2, 0xABCD)),
+        (asked(16, 4, 2, words(1, 65535)), asked(16, 4, 2)),
+        (asked(3, 2, 4), bytes([1, 3, 8]) + words(0xABCD, 65535, 1, 65535)),
+        (asked(3, 999, 1), bytes([1, 3, 2]) + words(4711)),
+        (asked(3, 999, 2), bytes([1, 0x83, 2])),
+        (asked(6, 65535, 1), bytes([1, 0x86, 2])),
+        (asked(3, 0, 0), bytes([1, 0x83, 3])),
+        (asked(4, 0, 126), bytes([1, 0x84, 3])),
+        (asked(5, 0, 1), bytes([1, 0x85, 3])),
+        (asked(43, 0x0E01, 0), bytes([1, 0xAB, 1])),
+        (asked(6, 9, 9, unit=2), b""),
+        (asked(6, 8, 88, unit=0), b""),
+        (asked(3, 8, 1, unit=0), b""),
+        (asked(3, 8, 2), bytes([1, 3, 4]) + words(88, 0)),
+        (asked(15, 0, most_coils, coils), asked(15, 0, most_coils)),
+        (asked(1, 0, 2000), bytes([1, 1, 250]) + coils + bytes(250 - len(coils))),
+        (asked(16, 100, most_registers, registers), asked(16, 100, most_registers)),
+        (asked(3, 100, 125), bytes([1, 3, 250]) + registers + bytes(250 - len(registers))),
+    )
+
+
+def test_tcp_requests(program):
+    with Preset(program) as server, Client(server.port) as client:
+        for body, reply in rows(1944, 121):
+            exchange(client, tcp, body, reply)
+
+
+def test_rtu_requests(program):
+    with Line() as line, Preset(program, "--rtu", line.path) as server:
+        for body, reply in rows(1968, 123):
+            exchange(line, rtu, body, reply)
+        line.send(rtu(READ)[:-1] + b"\0")
+        check(line.is_quiet(), "a wrong CRC is answered")
+        soon(lambda: server.log()[-1].endswith("FrameCheck"), "the wrong CRC is not logged")
+
+
+def test_ascii_requests(program):
+    with Line() as line, Preset(program, "--ascii", line.path):
+        for body, reply in rows(1968, 123):
+            exchange(line, ascii_line, body, reply)
+
+
+def test_one_set_of_tables(program):
+    """What one client writes, all others read, at once."""
+    with Line() as first, Line() as second, \
+            Server(program, "--rtu", first.path, "--ascii", second.path, "--unit", "9", "--broadcast", "7,8") \
+            as server, Client(server.port) as client:
+        exchange(first, rtu, asked(6, 1, 11, unit=9), asked(6, 1, 11, unit=9))
+        exchange(second, ascii_line, asked(6, 2, 22, unit=8), b"")
+        exchange(client, tcp, asked(6, 3, 33, unit=7), b"")
+        exchange(client, tcp, asked(6, 3, 44, unit=0), b"")
+        for end, wrap in ((first, rtu), (second, ascii_line), (client, tcp)):
+            exchange(end, wrap, asked(3, 1, 3, unit=9), bytes([9, 3, 6]) + words(11, 22, 33))

@@ -1,0 +1,53 @@
+/* What the files of kat share: kat.c starts and counts; kat_drive.c has the driver's cases, from kat_rows.h, and
+ * kat_calls.c the header's other four calls; kat_list.c writes the list. */
+#ifndef KAT_H
+#define KAT_H
+#include "asked.h"
+
+#define CASES(rows) (sizeof(rows) / sizeof(rows)[0])
+
+extern unsigned checks; /* made so far, or cases written */
+
+/* Says so and ends the program. */
+_Noreturn void different(const char *name, const char *what);
+
+/* Bytes from text: pairs of hex digits, blanks between them as you like, and *n for the last byte n times in all; after
+ * a ' the characters themselves. Answers how many. */
+size_t bytes_of(const char *text, uint8_t *bytes);
+
+/* What a lent buffer holds before a call. */
+static inline uint8_t as_lent(size_t i) { return (uint8_t)(0x5A + i); }
+
+/* A NULL where the slice is empty: the library must not mind. */
+static inline struct slice slice(uint8_t *bytes, size_t len) { return (struct slice){len == 0 ? NULL : bytes, len}; }
+
+struct setup {
+    uint8_t unit;
+    const char *list, *table[TABLES]; /* coils, discretes, holdings, inputs; spare bytes stand here too */
+    size_t cells[TABLES];
+    int room; /* 0: just enough */
+};
+
+/* on: the transports, r RTU, a ASCII, t TCP. There `ask` and `reply` go from the unit byte on and get header and check;
+ * under R, A and T they are the whole frames. Afterwards `table` reads `now` from byte `at` on; all else stays. */
+struct row {
+    const char *name, *on;
+    const struct setup *setup;
+    const char *ask;
+    int outcome, code;
+    const char *reply;
+    int table;
+    size_t at;
+    const char *now;
+};
+
+/* Each of the driver's cases, with its call and the reply that must come: made (kat_drive.c), or written as a record of
+ * the program `cases` (kat_list.c). */
+typedef void each_case(const struct row *row, const struct asked *a, struct slice reply);
+void driver_cases(each_case *each);
+each_case call_case, list_case;
+void list_head(void);
+
+/* The other four calls. */
+void other_calls(void);
+#endif

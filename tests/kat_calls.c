@@ -1,0 +1,144 @@
+/* The header's other four calls: both guesses, and ASCII text to bytes and back. */
+#include "kat.h"
+#include <string.h>
+
+static const struct {
+    const char *name, *text;
+    uint8_t proto, kind;
+    size_t value;
+} requests[] = {
+    {"request, no bytes", "", 0, 21, 0},
+    {"request, 1 byte", "01", 0, 21, 0},
+    {"request of 3", "01 03", 0, 0, 8},
+    {"request of 16", "11 10 0000 0002 04", 0, 0, 13},
+    {"request of 16, 6 bytes", "11 10 0000 0002", 0, 21, 0},
+    {"request of 15, byte count 246", "01 0F 0000 0001 F6", 0, 0, 255},
+    {"request of 15, byte count 247", "01 0F 0000 0001 F7", 0, 23, 0},
+    {"request of 43", "01 2B", 0, 0, 8},
+    {"request of 255", "01 FF", 0, 0, 8},
+    {"request, ASCII, nothing", "", 1, 21, 0},
+    {"request, ASCII", "':0103", 1, 0, 17},
+    {"request, ASCII, digit alone", "':01030", 1, 21, 0},
+    {"request, ASCII, no digit", "':010G", 1, 23, 0},
+    {"request, ASCII, lower case", "':010f", 1, 23, 0},
+    {"request, ASCII, byte count 118", "':01100000000276", 1, 0, 255},
+    {"request, ASCII, byte count 119", "':01100000000277", 1, 23, 0},
+    {"request, TCP, 5 bytes", "0007 0000 00", 2, 21, 0},
+    {"request, TCP", "0007 0000 0006", 2, 0, 12},
+    {"request, TCP, length 249", "0007 0000 00F9", 2, 0, 255},
+    {"request, TCP, length 250", "0007 0000 00FA", 2, 23, 0},
+    {"request, TCP, length 256", "0007 0000 0100", 2, 23, 0},
+    {"request, TCP, protocol", "0007 0001 0006", 2, 23, 0},
+    {"request, transport 3", "01 03", 3, 10, 0},
+    {"request, transport 255, no bytes", "", 255, 10, 0},
+}, responses[] = {
+    {"response, no bytes", "", 0, 21, 0},
+    {"response, 1 byte", "01", 0, 21, 0},
+    {"response of 3, 2 bytes", "01 03", 0, 21, 0},
+    {"response of 3", "01 03 04", 0, 0, 9},
+    {"response of 4, byte count 250", "01 04 FA", 0, 0, 255},
+    {"response of 4, byte count 251", "01 04 FB", 0, 23, 0},
+    {"response of 5, 2 bytes", "01 05", 0, 21, 0},
+    {"response of 5", "01 05 00", 0, 0, 8},
+    {"response of 16", "01 10 00", 0, 0, 8},
+    {"response of 127", "01 7F 00", 0, 23, 0},
+    {"response of 128", "01 80", 0, 0, 5},
+    {"exception", "01 83", 0, 0, 5},
+    {"response, ASCII, nothing", "", 1, 21, 0},
+    {"response, ASCII, byte count 122", "':01037A", 1, 0, 255},
+    {"response, ASCII, byte count 123", "':01037B", 1, 23, 0},
+    {"exception, ASCII", "':0183", 1, 0, 11},
+    {"response, TCP, 5 bytes", "0007 0000 00", 2, 21, 0},
+    {"response, TCP, length 249", "0007 0000 00F9", 2, 0, 255},
+    {"response, TCP, length 250", "0007 0000 00FA", 2, 23, 0},
+    {"response, transport 3", "01 03 04", 3, 10, 0},
+};
+
+/* data_len -1: the text's own. `left`: what stands from frame_buf[frame_pos] on; all else is as lent. */
+static const struct {
+    const char *name, *text;
+    int data_len;
+    uint8_t frame_pos;
+    size_t room;
+    uint8_t kind;
+    size_t value;
+    const char *left;
+} parses[] = {
+    {"parse j", "':010300000002FA\r\n", -1, 0, 256, 0, 7, "01 03 0000 0002 FA"},
+    {"parse without a colon", "'0103", -1, 2, 256, 0, 2, "01 03"},
+    {"parse, LF", "':01\n03", -1, 0, 256, 0, 1, "01"},
+    {"parse, NUL", "3A 3031 00 3033", -1, 0, 256, 0, 1, "01"},
+    {"parse nothing", "", -1, 0, 256, 21, 0, ""},
+    {"parse a colon", "':", -1, 0, 0, 0, 0, ""},
+    {"parse, digit alone at the end", "':010", -1, 0, 256, 21, 0, "01"},
+    {"parse, digit alone before CR", "':010\r", -1, 0, 256, 23, 0, "01"},
+    {"parse, lower case", "':01a0", -1, 0, 256, 23, 0, "01"},
+    {"parse, lower case second", "':010a", -1, 0, 256, 23, 0, "01"},
+    {"parse, no room", "':0102", -1, 0, 1, 21, 0, "01"},
+    {"parse past the text", "'01", 3, 0, 256, 21, 0, "01"},
+    {"parse part of the text", "'010203", 4, 0, 256, 0, 2, "01 02"},
+    {"parse 254 pairs and CR", "3A 30*508 0D", -1, 0, 256, 0, 254, "00*254"},
+    {"parse 255 pairs", "3A 30*510", -1, 0, 256, 0, 255, "00*255"},
+    {"parse 255 pairs and CR", "3A 30*510 0D", -1, 0, 256, 21, 0, "00*255"},
+    {"parse at position 254", "'0A", -1, 254, 256, 0, 1, "0A"},
+    {"parse at position 254, CR", "'0A\r", -1, 254, 256, 21, 0, "0A"},
+    {"parse at position 255", "'\r", -1, 255, 256, 21, 0, ""},
+};
+
+static const struct {
+    const char *name, *bytes;
+    size_t room;
+    uint8_t kind;
+    size_t value;
+    const char *left;
+} lines[] = {
+    {"generate j's reply", "01 03 04 0102 0304 EE", 19, 0, 19, "':01030401020304EE\r\n"},
+    {"generate, a byte short", "01 03 04 0102 0304 EE", 18, 21, 0, "':01030401020304EE\r"},
+    {"generate from nothing", "", 64, 0, 3, "':\r\n"},
+    {"generate into nothing", "", 0, 21, 0, ""},
+    {"generate into four bytes", "9A 0F", 4, 21, 0, "':9A0"},
+};
+
+static void answered(const char *name, struct dalonjang_answer a, uint8_t kind, size_t value) {
+    if (a.kind != kind) different(name, "the kind");
+    if (a.value != value) different(name, "the value");
+    checks++;
+}
+
+/* The buffer holds `left` from `at` on and is as lent elsewhere. */
+static void left_behind(const char *name, const uint8_t *buffer, size_t room, size_t at, const char *left) {
+    static uint8_t want[1024];
+    for (size_t i = 0; i < sizeof want; i++) want[i] = as_lent(i);
+    bytes_of(left, want + at);
+    if (memcmp(buffer, want, room) != 0) different(name, "the buffer");
+}
+
+void other_calls(void) {
+    static uint8_t in[1024], out[1024];
+    for (size_t i = 0; i < CASES(requests); i++) {
+        struct slice s = slice(in, bytes_of(requests[i].text, in));
+        answered(requests[i].name, dalonjang_guess_request_frame_len(s.bytes, s.len, requests[i].proto),
+                 requests[i].kind, requests[i].value);
+    }
+    for (size_t i = 0; i < CASES(responses); i++) {
+        struct slice s = slice(in, bytes_of(responses[i].text, in));
+        answered(responses[i].name, dalonjang_guess_response_frame_len(s.bytes, s.len, responses[i].proto),
+                 responses[i].kind, responses[i].value);
+    }
+    for (size_t i = 0; i < CASES(parses); i++) {
+        for (size_t k = 0; k < sizeof out; k++) out[k] = as_lent(k);
+        struct slice s = slice(in, bytes_of(parses[i].text, in)), o = slice(out, parses[i].room);
+        size_t data_len = parses[i].data_len < 0 ? s.len : (size_t)parses[i].data_len;
+        answered(parses[i].name,
+                 dalonjang_parse_ascii_frame(s.bytes, s.len, data_len, o.bytes, o.len, parses[i].frame_pos),
+                 parses[i].kind, parses[i].value);
+        left_behind(parses[i].name, out, sizeof out, parses[i].frame_pos, parses[i].left);
+    }
+    for (size_t i = 0; i < CASES(lines); i++) {
+        for (size_t k = 0; k < sizeof out; k++) out[k] = as_lent(k);
+        struct slice s = slice(in, bytes_of(lines[i].bytes, in)), o = slice(out, lines[i].room);
+        answered(lines[i].name, dalonjang_generate_ascii_frame(s.bytes, s.len, o.bytes, o.len), lines[i].kind,
+                 lines[i].value);
+        left_behind(lines[i].name, out, sizeof out, 0, lines[i].left);
+    }
+}
