@@ -2,6 +2,7 @@
 -- that spare bits and bytes are kept. The discretes and the inputs are lent to be read, so nothing of theirs stands at the exit.
 -- Assumes nothing.
 use mathlib.Core.Logic.{_↔_}
+use mathlib.Core.Path.{_≡_}
 use mathlib.Core.List.{List}
 use Prim.Native.Nat.{ℕ, _≤_}
 use lib.ListN.{take}
@@ -17,8 +18,8 @@ use Rattle.driver.proofs.drive.Kinds as drive-kinds
 use Rattle.driver.proofs.drive.Reads as drive-reads
 use Rattle.demands.specs.Demand.{Demand3}
 use Rattle.demands.specs.Order.{Refusal}
-use Rattle.demands.specs.OnBytes.{showed, Kept}
-use Rattle.demands.proofs.OnBytes.{demand-on-bytes, refused-on-bytes, kept-on-bytes}
+use Rattle.demands.specs.OnBytes.{showed, refusing, Kept}
+use Rattle.demands.proofs.OnBytes.{demand-on-bytes, refusal-due, refusals-on-bytes, untouched, kept-on-bytes}
 
 -- a call: its arguments `a`, its result `x`, what it leaves at the exit `u`, and that these meet the contract
 module _ (κs : Lfts 7) (a : Dens κs drive-kinds.ps) (x : resT drive-kinds.r κs .Denot) (u : Lasts (endedOf 7 drive-kinds.ps drive-kinds.r) κs a)
@@ -43,9 +44,18 @@ module _ (κs : Lfts 7) (a : Dens κs drive-kinds.ps) (x : resT drive-kinds.r κ
     pub third : Valid setup → Roomy setup → Demand3 setup (tablesOf lent) frame (showed lent left)
     third valid roomy = demand-on-bytes (a .0) _ lent frame reply frameBytes _ post holdingBytes inputBytes valid roomy
 
-    pub refused : (2 ≤ left .result .outcome)
-        ↔ Refusal setup frame (left .result .outcome) (left .result .code) (take (left .result .length) (left .replyBytes))
-    refused = refused-on-bytes (a .0) _ lent frame reply frameBytes _ post holdingBytes inputBytes
+    -- each outcome from 2 on is given exactly where it is due, whatever the setup; then no byte changes but those of its reply
+    pub refused : (o c : ℕ) (r : List ℕ) → 2 ≤ o → Refusal setup frame o c r ↔ (left ≡ refusing lent reply o c r)
+    refused = refusals-on-bytes (a .0) _ lent frame reply frameBytes _ post holdingBytes inputBytes
+
+    -- and where one is given, it is due
+    pub due : 2 ≤ left .result .outcome
+        → Refusal setup frame (left .result .outcome) (left .result .code) (take (left .result .length) (left .replyBytes))
+    due = refusal-due (a .0) _ lent frame reply frameBytes _ post holdingBytes inputBytes
+
+    -- only the outcomes 0 and 1 change a byte of a table
+    pub unchanged : 2 ≤ left .result .outcome → (left .coilBytes ≡ lent .coilBytes) × (left .holdingBytes ≡ lent .holdingBytes)
+    unchanged = untouched (a .0) _ lent frame reply frameBytes _ post holdingBytes inputBytes
 
     pub kept : Kept setup lent frame reply left
     kept = kept-on-bytes (a .0) _ lent frame reply frameBytes _ post holdingBytes inputBytes

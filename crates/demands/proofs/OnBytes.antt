@@ -175,15 +175,12 @@ module _ (n : Numbers) (list : List ℕ) (l : Lent) (frame reply : List ℕ) (y 
       demand-on-bytes v r = rw showed-drive (demand-3 s (tablesOf l) frame y v r)
 
       -- an outcome from 2 on is a refusal that is due, whatever the setup
-      pub refused-on-bytes : (2 ≤ g .result .outcome)
-          ↔ Refusal s frame (g .result .outcome) (g .result .code) (take (g .result .length) (g .replyBytes))
-      refused-on-bytes = (
-        λ high.
-            let z : due ≡ showed l g = sym showed-drive in
-            exactly s (tablesOf l) frame y _ _ _ high .1
-            (ap (λ x. x .outcome) z, ap (λ x. x .exceptionCode) z, ap (λ x. x .reply) z),
-        λ r. refusal-high s frame r,
-      )
+      pub refusal-due : 2 ≤ g .result .outcome
+          → Refusal s frame (g .result .outcome) (g .result .code) (take (g .result .length) (g .replyBytes))
+      refusal-due high =
+          let z : due ≡ showed l g = sym showed-drive in
+          exactly s (tablesOf l) frame y _ _ _ high .1
+          (ap (λ x. x .outcome) z, ap (λ x. x .exceptionCode) z, ap (λ x. x .reply) z)
 
       -- and every refusal that is due is given, with not a byte beside its reply changed
       pub refusals-on-bytes : (o c : ℕ) (r : List ℕ) → 2 ≤ o → Refusal s frame o c r ↔ (g ≡ refusing l reply o c r)
@@ -196,6 +193,12 @@ module _ (n : Numbers) (list : List ℕ) (l : Lent) (frame reply : List ℕ) (y 
             exactly s (tablesOf l) frame y o c r high .1
             (ap (λ x. x .outcome) z, ap (λ x. x .exceptionCode) z, ap (λ x. x .reply) z ∙ take-append-seam r _),
       )
+
+      -- so only outcomes 0 and 1 change a byte of a table
+      pub untouched : 2 ≤ g .result .outcome → (g .coilBytes ≡ l .coilBytes) × (g .holdingBytes ≡ l .holdingBytes)
+      untouched high =
+          let z = refusals-on-bytes _ _ _ high .0 (refusal-due high) in
+          (ap (λ x. x .coilBytes) z, ap (λ x. x .holdingBytes) z)
 
       pub kept-on-bytes : Kept s l frame reply g
       unfolding driven
