@@ -4,7 +4,7 @@ use mathlib.Core.Path.{refl, sym, ap, _∙_}
 use mathlib.Core.List.{List}
 use Prim.Native.Nat.{ℕ}
 use Rattle.modbus.proofs.Unique.{Unique, answer-paper}
-use Rattle.driver.specs.Driven.{Leaves}
+use Rattle.driver.proofs.Unique.{drive as driver-drive}
 use Rattle.dalonjang.proofs.dalonjang_drive.Kinds as dalonjang-drive-kinds
 use Rattle.dalonjang.proofs.dalonjang_drive.Reads as dalonjang-drive-reads
 use Rattle.dalonjang.proofs.dalonjang_parse_ascii_frame.Kinds as dalonjang-parse-ascii-frame-kinds
@@ -32,15 +32,6 @@ guess-request-frame-len κs a x y u v p q = (answer-paper x y (p ∙ sym q), ref
 pub guess-response-frame-len : Unique 1 dalonjang-guess-response-frame-len-kinds.ps dalonjang-guess-response-frame-len-kinds.r dalonjang-guess-response-frame-len-reads.Post
 guess-response-frame-len κs a x y u v p q = (answer-paper x y (p ∙ sym q), refl)
 
--- the coils are the third of the parameters, the holdings the fifth and the reply buffer the last
+-- the driver's contract is this one
 pub drive : Unique 7 dalonjang-drive-kinds.ps dalonjang-drive-kinds.r dalonjang-drive-reads.Post
-drive κs a x y u v p q =
-    let e = p ∙ sym q in
-    let f = u .1 .1 .1 in
-    let h = f .1 .1 in (
-      ap (λ (g : Leaves). g .result) e,
-      ap (λ (g : Leaves). (
-        u .0,
-        (u .1 .0, (g .coilBytes, (f .0, (g .holdingBytes, (h .0, (h .1 .0, (g .replyBytes, h .1 .1 .1))))))),
-      )) e,
-    )
+drive = driver-drive
