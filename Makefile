@@ -1,9 +1,16 @@
 # The README's commands. `make test` is what .ci/run calls; its last line is rt ci's 'N passed, 0 failed'.
-.PHONY: test proved prove beside frame-runs driver-runs host-runs peers lib measure serve clean
+.PHONY: help test proved prove beside frame-runs driver-runs host-runs package-runs peers lib measure serve install clean
 .NOTPARALLEL: # the runs use what rt ci has proved
+PREFIX ?= /usr/local
+
+# this list
+help:
+	@echo 'make WHAT, where WHAT is one of'
+	@awk '/^# /{ said = said (said == "" ? "" : "\n               ") substr($$0, 3); next } \
+	    /^[a-z-]+:/ && said != "" { sub(":.*", ""); printf "  %-12s %s\n", $$0, said } { said = "" }' Makefile
 
 # everything; the verdict is said at the end, when the runs are through, and only then
-test: proved beside frame-runs driver-runs host-runs peers
+test: proved beside frame-runs driver-runs targets host-runs peers package-runs
 	@tail -n 1 out/ci.log | grep -x '[0-9]* passed, 0 failed'
 
 # every crate proved from nothing, the must-fail edits refused, the programs run
@@ -29,12 +36,17 @@ driver-runs:
 host-runs:
 	@bin/host-runs
 
+# what is installed, the manual pages, the README's example and numbers, the first steps on a machine
+package-runs:
+	@bin/package-runs
+
 # the server and mbpoll, pymodbus and libmodbus, as far as their packages can be had
 peers:
 	@bin/peers
 
 # the static library for firmware
 lib:
+	@bin/proved dalonjang
 	@mkdir -p out && rt staticlib dalonjang >out/lib.log 2>&1 || { cat out/lib.log >&2; exit 1; }
 	@echo 'target/staticlib/libdalonjang.a, with include/dalonjang.h'
 
@@ -46,5 +58,10 @@ measure:
 serve:
 	@bin/serve $(ARGS)
 
+# header, library, pkg-config file, server and manual pages under PREFIX (/usr/local; DESTDIR for packagers)
+install:
+	@bin/install $(PREFIX)
+
+# all that was made and proved
 clean:
 	rm -rf out target

@@ -1,4 +1,5 @@
-/* libmodbus under measure: modbus_receive and modbus_reply. The five calls through which they reach a socket or a
+/* libmodbus under measure: modbus_receive and modbus_reply, or with -DREPLY_ALONE the second alone, which takes a whole
+ * frame in memory and asks neither for its check nor for its unit. The five calls through which they reach a socket or a
  * serial line are replaced here by copies from and to memory, so that no system call is made. */
 #include "rows.h"
 #include <modbus.h>
@@ -37,14 +38,25 @@ ssize_t send(int fd, const void *from, size_t n, int flags) {
 ssize_t read(int fd, void *to, size_t n) { return recv(fd, to, n, 0); }
 ssize_t write(int fd, const void *from, size_t n) { return send(fd, from, n, 0); }
 
-/* It has no ASCII, and its CRC cannot be called alone. */
+#ifndef REPLY_ALONE
+enum { REPLY_ALONE = 0 };
+#endif
+
+/* It has no ASCII, and its CRC cannot be called alone. On TCP it takes every unit number for its own; who is meant and
+ * whether the check is right is the first call's question. */
+static int serves(const struct row *row) {
+    if (row->kind == TCP) return row->how == OURS;
+    return row->kind == RTU && (row->how == OURS || row->how == BROADCAST || !REPLY_ALONE);
+}
+
 static int start(const struct row *row) {
     int cells = (int)row->cells;
+    if (!serves(row)) return 0;
     context = row->kind == TCP ? modbus_new_tcp("127.0.0.1", 1502) : modbus_new_rtu("/dev/null", 9600, 'N', 8, 1);
     tables = modbus_mapping_new(cells, cells, cells, cells);
-    if (row->kind == ASCII || row->kind == CRC) return 0;
     if (!context || !tables || modbus_set_slave(context, UNIT) != 0) exit(2);
-    modbus_set_socket(context, 900); /* a number that nothing else has open */
+    modbus_set_socket(context, 900);               /* a number that nothing else has open */
+    modbus_set_response_timeout(context, 0, 1); /* some refusals wait for that long */
     return 1;
 }
 
@@ -53,6 +65,10 @@ static const uint8_t *reply(void) { return sent; }
 static inline size_t serve(const struct row *row, const struct line *request) {
     (void)row;
     arriving = request->bytes, left = request->len, sent_len = 0;
+    if (REPLY_ALONE) {
+        modbus_reply(context, request->bytes, (int)request->len, tables);
+        return sent_len;
+    }
     int n = modbus_receive(context, received);
     if (n > 0) modbus_reply(context, received, n, tables);
     return sent_len;

@@ -4,8 +4,8 @@
  *     reply()           where the last reply stands
  *     crc(bytes, n)     the server's CRC
  *
- * Standard input has a line for each row: rtu, ascii, tcp or crc, then function, start, count and cells. A row's
- * request is made once and its reply compared, with a write read back. Then it is made FEW times between two calls of
+ * Standard input has a line for each row: rtu, ascii, tcp or crc; ours, foreign, broadcast or spoilt; then function,
+ * start, count and cells. A row's request is made once and its reply compared, with a write read back. Then it is made FEW times between two calls of
  * bench_mark, and twice as often between two more: whoever counts instructions divides the difference by FEW. Where
  * the server has no such call, nothing is between the marks.
  * Status: 0 all was as it must be, 1 a wrong reply or CRC, 2 a line that is no row. */
@@ -31,6 +31,7 @@ static void try_one(const struct row *row) {
 /* The same cells by another function; in one request, or in two. */
 static void try_cells(const struct row *row, size_t function, size_t most) {
     struct row part = *row;
+    part.how = OURS;
     part.function = function;
     part.count = row->count < most ? row->count : most;
     try_one(&part);
@@ -41,7 +42,8 @@ static void try_cells(const struct row *row, size_t function, size_t most) {
 
 static void try_row(const struct row *row) {
     int bits = row->function == 1 || row->function == 5 || row->function == 15;
-    int inside = row->start + row->count <= row->cells, reads = row->function < 5;
+    int done = row->how == OURS || row->how == BROADCAST, reads = row->function < 5;
+    int inside = done && row->count > 0 && row->start + row->count <= row->cells;
     if (inside && reads) try_cells(row, bits ? 15 : 16, bits ? 1000 : 100);
     try_one(row);
     if (inside && !reads) try_cells(row, bits ? 1 : 3, bits ? 2000 : 125);
@@ -78,18 +80,27 @@ static void measure_crc(const struct row *row) {
     make_checks(bytes, row->count, 2 * FEW);
 }
 
+static int place_of(const char *word, const char *const words[], int many) {
+    int n = 0;
+    while (n < many && strcmp(word, words[n]) != 0) n++;
+    return n;
+}
+
 static void measure_nothing(void) {
     for (int i = 0; i < 4; i++) bench_mark();
 }
 
 int main(void) {
     static const char *const kinds[] = {"rtu", "ascii", "tcp", "crc"};
+    static const char *const hows[] = {"ours", "foreign", "broadcast", "spoilt"};
     _Alignas(PAGE) char kind[8]; /* so the stack is at the same place in a page whatever the environment */
+    char how[16];
     struct row row = {0};
     int n;
-    while ((n = scanf("%7s %zu %zu %zu %zu", kind, &row.function, &row.start, &row.count, &row.cells)) == 5) {
-        for (row.kind = RTU; row.kind <= CRC && strcmp(kind, kinds[row.kind]) != 0; row.kind++) {}
-        if (row.kind > CRC || row.count > 2000 || (row.kind == CRC && row.count > 255)) return 2;
+    while ((n = scanf("%7s %15s %zu %zu %zu %zu", kind, how, &row.function, &row.start, &row.count, &row.cells)) == 6) {
+        row.kind = place_of(kind, kinds, CRC + 1);
+        row.how = place_of(how, hows, SPOILT + 1);
+        if (row.kind > CRC || row.how > SPOILT || row.count > 2000 || (row.kind == CRC && row.count > 255)) return 2;
         row.turn++;
         if (!start(&row)) {
             measure_nothing();

@@ -9,9 +9,10 @@ uint16_t crate_crc(const uint8_t *bytes, size_t n);
 
 static struct crate *server;
 
+/* The crate's storage has its sizes at compile time, and it answers a count of 0 otherwise than the Modbus document. */
 static int start(const struct row *row) {
     server = crate_new();
-    return row->kind == CRC || row->cells == 10000; /* the crate's storage has its sizes at compile time */
+    return row->kind == CRC || (row->cells == 10000 && row->count > 0);
 }
 
 static const uint8_t *reply(void) { return crate_reply(server); }

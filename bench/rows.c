@@ -33,7 +33,7 @@ static size_t put_request(uint8_t *body, const struct row *row) {
     size_t value = row->count;
     if (row->function == 5) value = bit_at(row, 0) ? 0xFF00 : 0;
     if (row->function == 6) value = word_at(row, 0);
-    body[0] = UNIT;
+    body[0] = row->how == FOREIGN ? OTHER_UNIT : row->how == BROADCAST ? EVERYONE : UNIT;
     body[1] = (uint8_t)row->function;
     put_word(body + 2, row->start);
     put_word(body + 4, value);
@@ -43,10 +43,10 @@ static size_t put_request(uint8_t *body, const struct row *row) {
 }
 
 static size_t put_reply(uint8_t *body, const struct row *row) {
-    if (row->start + row->count > row->cells) {
+    if (row->count == 0 || row->start + row->count > row->cells) {
         body[0] = UNIT;
         body[1] = (uint8_t)(row->function + 128);
-        body[2] = 2;
+        body[2] = row->count == 0 ? 3 : 2;
         return 3;
     }
     put_request(body, row);
@@ -98,14 +98,23 @@ static struct line wrapped(int kind, const uint8_t *body, size_t n) {
     return line;
 }
 
+/* The last byte of the check, on ASCII its last digit, is another one. */
+static void spoil(struct line *line, int kind) {
+    uint8_t *last = line->bytes + line->len - (kind == ASCII ? 3 : 1);
+    *last = kind == ASCII ? (*last == '0' ? '1' : '0') : (uint8_t)(*last ^ 1);
+}
+
 struct line request_of(const struct row *row) {
     uint8_t body[MOST];
     size_t n = put_request(body, row);
-    return wrapped(row->kind, body, n);
+    struct line line = wrapped(row->kind, body, n);
+    if (row->how == SPOILT) spoil(&line, row->kind);
+    return line;
 }
 
 struct line reply_of(const struct row *row) {
     uint8_t body[MOST];
+    if (row->how != OURS) return (struct line){{0}, 0};
     size_t n = put_reply(body, row);
     return wrapped(row->kind, body, n);
 }

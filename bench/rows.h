@@ -5,11 +5,12 @@
 #include <stdint.h>
 
 enum { RTU, ASCII, TCP, CRC }; /* the numbers of include/dalonjang.h; and the check alone, of `count` bytes */
-enum { UNIT = 1, MOST = 520 };
+enum { UNIT = 1, OTHER_UNIT = 2, EVERYONE = 0, MOST = 520 };
+enum { OURS, FOREIGN, BROADCAST, SPOILT }; /* to our unit; to another; to all; to ours, with a wrong check */
 enum { PAGE = 4096 }; /* tables and buffers start at a page: the cost of a copy depends on where it starts */
 
 struct row {
-    int kind;
+    int kind, how;
     size_t function, start, count, cells; /* every table has so many cells */
     size_t turn;                          /* from turn to turn all cells have other values */
 };
@@ -23,7 +24,8 @@ struct line {
 /* What the row asks; what a write carries are its cells' values in this turn. */
 struct line request_of(const struct row *row);
 
-/* What must come back when the cells have these values, or the exception if they are not all in the table. */
+/* What must come back when the cells have these values, or the exception if there are none or they are not all in the
+ * table; nothing, unless it is to our unit and whole. */
 struct line reply_of(const struct row *row);
 
 uint16_t plain_crc(const uint8_t *bytes, size_t n);

@@ -65,11 +65,16 @@ build_crate() {
         bin/x86cc -Werror -o "out/bench/$name" bench/rmodbus.c bench/rows.c "$room/libserved.a"
 }
 
-# The programs rmodbus, rmodbus-one-unit and libmodbus in out/bench.
+# build_libmodbus NAME OPTION..: out/bench/NAME, libmodbus as Debian builds it
+build_libmodbus() {
+    bin/x86cc -Werror -I"$usr/include/modbus" "${@:2}" -o "out/bench/$1" bench/libmodbus.c bench/rows.c \
+        "$usr/lib/x86_64-linux-gnu/libmodbus.so"
+}
+
+# The programs rmodbus, rmodbus-one-unit, libmodbus and libmodbus-reply in out/bench.
 build_peers() {
     gather_crate && unpack_peers && build_crate rmodbus && build_crate rmodbus-one-unit -C codegen-units=1 &&
-        bin/x86cc -Werror -I"$usr/include/modbus" -o out/bench/libmodbus bench/libmodbus.c bench/rows.c \
-            "$usr/lib/x86_64-linux-gnu/libmodbus.so"
+        build_libmodbus libmodbus && build_libmodbus libmodbus-reply -DREPLY_ALONE=1
 }
 
 # $emulator: the kit's where it has one, else this machine's, else Debian's unpacked

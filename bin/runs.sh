@@ -3,6 +3,7 @@
 source=../shared/docs/src/src # the crate's source stands beside the repository, never in it
 vectors=out/oracle/target/oracle/vectors
 seed=${SEED:-1}
+kit_wanted='rattle-kit-5b logic 064da1ca440f63e7' # as `rt version` says it
 PATH=$PATH:${HOME:-/root}/.cargo/bin
 
 fail() {
@@ -25,18 +26,19 @@ fetch() {
     DEBIAN_FRONTEND=noninteractive apt-get install -y --no-install-recommends "$@"
 }
 
-# packages [rust|python]: a C compiler's headers, and Rust or Python where it is said
+# packages [rust|python|sqlite]..: a C compiler's headers, and Rust, Python or SQLite where it is said
 packages() {
-    local c='' rust='' python=''
-    { [ -e /usr/include/stdio.h ] && command -v gcc >/dev/null; } || c='gcc libc6-dev'
-    [ "${1:-}" != rust ] || command -v cargo >/dev/null || rust='cargo rustc'
-    [ "${1:-}" != python ] || [ -x /usr/bin/python3 ] || python='python3'
-    [ -z "$c$rust$python" ] && return
-    can_install || fail "these packages are missing: $c $rust $python"
+    local missing='' rust=''
+    { [ -e /usr/include/stdio.h ] && command -v gcc >/dev/null; } || missing='gcc libc6-dev'
+    [[ " $* " != *' python '* ]] || [ -x /usr/bin/python3 ] || missing="$missing python3"
+    [[ " $* " != *' sqlite '* ]] || [ -e /usr/include/sqlite3.h ] || missing="$missing libsqlite3-dev"
+    [[ " $* " != *' rust '* ]] || command -v cargo >/dev/null || rust='cargo rustc'
+    [ -z "$missing$rust" ] && return
+    can_install || fail "these packages are missing:$missing $rust"
     # the crate wants Rust 1.81; in Debian 12 only the packages -web are new enough
     if [ -n "$rust" ] && apt-cache show cargo-web >/dev/null 2>&1; then rust='cargo-web rustc-web'; fi
     # shellcheck disable=SC2086
-    logged packages fetch $c $rust $python
+    logged packages fetch $missing $rust
 }
 
 # put FROM TO: copied only where it differs, so that cargo builds again exactly what changed
@@ -63,34 +65,111 @@ build_vectors() {
         --manifest-path out/oracle/Cargo.toml --target-dir out/oracle/target
 }
 
-# library CRATE..: $LIB, or the libraries of these crates. What is proved is not proved again, nor is a library made
-# again that is younger than the proof.
+# need_kit: what proves and compiles is here; another version of it is used, and said
+need_kit() {
+    local here
+    command -v rt >/dev/null || fail "the Rattle kit is not on this machine: its program rt is wanted, of $kit_wanted"
+    here=$(rt version)
+    [ "$here" = "$kit_wanted" ] || echo "$(basename "$0"): the kit here is $here, where $kit_wanted was in use" >&2
+}
+
+# below CRATE: it and the crates of this repository that it is built on, a line each, with what each is built on
+below() {
+    tac crates.txt | awk -v wanted="$1" '
+        { name = $1; sub(":", "", name) }
+        name == wanted { need[name] = 1 }
+        need[name] { for (i = 2; i <= NF; i++) need[$i] = 1; print }' | tac
+}
+
+# progress CRATE <WHAT RT SAYS: where nothing was said for two seconds, how many crates are proved and which is next
+progress() {
+    local line name needs each proved=' ' said='' next status all
+    all=$(below "$1")
+    while true; do
+        status=0
+        read -r -t 2 line || status=$?
+        if [ $status = 0 ]; then
+            [[ ! $line =~ ^rt:\ ([a-z]+)\ proved ]] || proved="$proved${BASH_REMATCH[1]} "
+            continue
+        fi
+        [ $status -gt 128 ] || return 0 # nothing more comes
+        next=''
+        while read -r name needs; do
+            [[ $proved != *" ${name%:} "* ]] || continue
+            for each in $needs; do [[ $all != *"$each:"* || $proved == *" $each "* ]] || continue 2; done
+            next="$next, ${name%:}"
+        done <<<"$all"
+        [ "$next" = "$said" ] || echo "proving: $(wc -w <<<"$proved") of $(wc -l <<<"$all") crates done, now ${next#, }"
+        said=$next
+    done
+}
+
+# prove_crate CRATE: proved where it is not yet, or has changed; that takes minutes the first time
+prove_crate() {
+    need_kit
+    rt check "$1" 2>&1 | tee out/proved.log | progress "$1" >&2 || { cat out/proved.log >&2; fail "not proved: $1"; }
+}
+
+# library CRATE..: $LIB, or the libraries of these crates for x86-64. What is proved is not proved again, nor is a
+# library made again that is younger than the proof.
 library() {
     local crate made
     if [ -z "${LIB:-}" ]; then
         for crate in "$@"; do
             made=target/staticlib/lib$crate.a
-            logged proved rt check "$crate"
+            prove_crate "$crate"
             [ "$made" -nt "target/stamp/$crate" ] || logged staticlib rt staticlib "$crate"
             LIB="${LIB:-} $made"
         done
     fi
 }
 
-# build_server NAME [FOLDER]: out/NAME, the server of host/ or of a copy of it, around the library
-build_server() {
-    logged x86cc bin/x86cc -Werror -Iinclude -o "out/$1" "${2:-host}"/*.c $LIB
+# machine_library: $LIB, or the library for this machine's own compiler and linker, from the sources as they stand
+machine_library() {
+    local machine made
+    machine=$(uname -m)
+    made=target/lib/$machine/libdalonjang.a
+    if [ "$machine" = x86_64 ] && [ ! -e "$made" ]; then
+        library dalonjang
+    elif [ -z "${LIB:-}" ]; then
+        prove_crate dalonjang
+        logged lib make --no-print-directory lib "TARGET=$machine"
+        LIB=$made
+    fi
 }
 
-# wrong_server FILE OLD NEW: out/wrong, the server with one place in FILE of host/ changed
+# machine_cc WORDS..: this machine's own compiler, for what is linked with the machine's library
+machine_cc() {
+    logged cc "${CC:-gcc}" -O2 -Wall -Wextra -Werror -Iinclude "$@"
+}
+
+# link_server NAME FILE..: out/NAME, the server of these objects and sources around the machine's library
+link_server() {
+    # shellcheck disable=SC2086
+    machine_cc -o "out/$1" "${@:2}" $LIB -lsqlite3
+}
+
+# build_server: out/server, the server of host/
+build_server() {
+    local file
+    mkdir -p out/host
+    for file in host/*.c; do machine_cc -c -o "out/$file.o" "$file"; done
+    link_server server out/host/*.o
+}
+
+# wrong_server NAME FILE OLD NEW: out/NAME, the server with one place in FILE of host/ changed, after build_server
 wrong_server() {
-    local text
-    text=$(<"host/$1")
-    [[ $text == *"$2"* ]] || fail "host/$1 has no '$2' that could be changed"
-    rm -rf out/wrong-host
-    cp -r host out/wrong-host
-    printf '%s\n' "${text%%"$2"*}$3${text#*"$2"}" >"out/wrong-host/$1"
-    build_server wrong out/wrong-host
+    local text objects=(out/host/*.o) room=out/wrong-host/$1
+    text=$(<"host/$2")
+    [[ $text == *"$3"* ]] || fail "host/$2 has no '$3' that could be changed"
+    rm -rf "$room"
+    mkdir -p "$room"
+    cp host/* "$room"
+    printf '%s\n' "${text%%"$3"*}$4${text#*"$3"}" >"$room/$2"
+    case $2 in
+    *.c) link_server "$1" "${objects[@]/#out\/host\/$2.o/$room/$2}" ;;
+    *) link_server "$1" "$room"/*.c ;;
+    esac
 }
 
 # saw STATUS LOG WHO WHAT: a test sees a wrong server when it says what is wrong and ends with 1; both are counted, and
@@ -107,6 +186,28 @@ saw() {
     else
         echo "$(basename "$0"): $3 did not see a wrong server: $4 (status $1)" >&2
     fi
+}
+
+# wrong_ones FOLDER: makes it anew, for one_wrong and all_seen; one_wrong NUMBER TEST WHAT COMMAND..: starts the command,
+# which prints a status and writes FOLDER/NUMBER.log, with at most four at a time, since they mostly wait; all_seen: waits
+# for all of them, and what each said is counted and kept
+wrong_ones() {
+    wrongs=$1
+    rm -rf "$wrongs"
+    mkdir -p "$wrongs"
+}
+one_wrong() {
+    printf '%s@%s\n' "$2" "$3" >"$wrongs/$1.what"
+    ("${@:4}" >"$wrongs/$1.status") &
+    while [ "$(jobs -pr | wc -l)" -ge 4 ]; do wait -n || true; done
+}
+all_seen() {
+    local n test what
+    wait
+    for ((n = 1; n <= $1; n++)); do
+        IFS=@ read -r test what <"$wrongs/$n.what"
+        saw "$(cat "$wrongs/$n.status")" "$wrongs/$n.log" "$test" "$what"
+    done
 }
 
 # compare CHECK COMMAND N: the statuses of both programs, as "vectors check"

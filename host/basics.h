@@ -1,7 +1,8 @@
 /* What every part of the host uses: the clock, numbers in text, a word to the user. */
 #ifndef BASICS_H
 #define BASICS_H
-#include <stdarg.h>
+#include "voice.h"
+#include <errno.h>
 #include <stdint.h>
 #include <stdio.h>
 #include <stdlib.h>
@@ -30,12 +31,5 @@ static inline int number(const char *text, size_t least, size_t most, size_t *va
 }
 
 /* One line on standard error. */
-__attribute__((format(printf, 1, 2))) static inline void complain(const char *format, ...) {
-    va_list values;
-    va_start(values, format);
-    fputs("dalonjang: ", stderr);
-    vfprintf(stderr, format, values);
-    fputc('\n', stderr);
-    va_end(values);
-}
+#define complain(...) voice_line(&to_errors, "dalonjang: " __VA_ARGS__)
 #endif

@@ -1,12 +1,18 @@
 #include "line.h"
 #include "basics.h"
 #include <fcntl.h>
+#include <linux/serial.h>
+#include <sys/ioctl.h>
+#include <sys/stat.h>
+#include <sys/sysmacros.h>
 #include <termios.h>
 
 enum {
-    RTU_MOST = 256,
+    RTU_LEAST = 4, RTU_MOST = 256,
+    BURSTS = 50,          /* adapters on USB hand over what came every 16 ms, and may come late */
     ASCII_SILENCE = 1000, /* SER 2.5.2.1: up to a second may pass between two characters */
     PATIENCE = 1000,      /* how long a line may take to send anything of a reply */
+    RETRY = 500,          /* after which a lost line is tried again */
     CHUNK = 64            /* no more is read at once: the ASCII frames that end in it have room for their replies */
 };
 
@@ -14,16 +20,26 @@ enum {
 
 unsigned line_speed(size_t baud) {
     static const struct { unsigned baud, speed; } known[] = {{1200, B1200}, {2400, B2400}, {4800, B4800}, {9600, B9600},
-        {19200, B19200}, {38400, B38400}, {57600, B57600}, {115200, B115200}};
+        {19200, B19200}, {38400, B38400}, {57600, B57600}, {115200, B115200}, {230400, B230400}, {460800, B460800},
+        {500000, B500000}, {576000, B576000}, {921600, B921600}, {1000000, B1000000}, {1152000, B1152000},
+        {1500000, B1500000}, {2000000, B2000000}, {2500000, B2500000}, {3000000, B3000000}, {3500000, B3500000},
+        {4000000, B4000000}};
     for (size_t i = 0; i < sizeof known / sizeof known[0]; i++)
         if (known[i].baud == baud) return known[i].speed;
     return 0;
 }
 
-/* Bytes as they come, at this speed; mode as 8E1. A pseudo terminal takes what it can of it. */
+static int is_pseudo(int fd) {
+    struct stat is;
+    return fstat(fd, &is) == 0 && S_ISCHR(is.st_mode) && major(is.st_rdev) >= 136 && major(is.st_rdev) <= 143;
+}
+
+/* Bytes as they come, at this speed; mode as 8E1. A pseudo terminal, which has neither parity nor seven bits, is not
+ * asked for them: the C library would call it an error. */
 static int set_up(int fd, size_t baud, const char *mode) {
     struct termios t;
     if (tcgetattr(fd, &t) != 0) return 0;
+    if (is_pseudo(fd)) mode = mode[2] == '2' ? "8N2" : "8N1";
     cfmakeraw(&t);
     t.c_cflag &= ~(tcflag_t)(CSIZE | PARENB | PARODD | CSTOPB);
     t.c_cflag |= CLOCAL | CREAD | (mode[0] == '7' ? CS7 : CS8) | (mode[2] == '2' ? CSTOPB : 0);
@@ -38,43 +54,116 @@ static int set_up(int fd, size_t baud, const char *mode) {
     return tcsetattr(fd, TCSANOW, &t) == 0 && tcflush(fd, TCIFLUSH) == 0;
 }
 
-/* SER 2.5.1.1: 3.5 characters of 11 bits, and 1.75 ms above 19200 baud; in whole milliseconds, rounded up. */
-static int64_t rtu_silence(const struct options *o) {
-    if (o->silence > 0) return (int64_t)o->silence;
-    return o->baud > 19200 ? 2 : (int64_t)((38500 + o->baud - 1) / o->baud);
+/* The driver raises RTS while it sends, and does not hear itself; its delays stay as they are. */
+static int set_direction(int fd) {
+    struct serial_rs485 rs485;
+    if (ioctl(fd, TIOCGRS485, &rs485) != 0) return 0;
+    rs485.flags |= SER_RS485_ENABLED | SER_RS485_RTS_ON_SEND;
+    rs485.flags &= ~(SER_RS485_RTS_AFTER_SEND | SER_RS485_RX_DURING_TX);
+    return ioctl(fd, TIOCSRS485, &rs485) == 0;
 }
 
+/* Answers what is wrong, or NULL. */
+static const char *start(struct line *l) {
+    const char *wrong = NULL;
+    l->fd = open(l->device, O_RDWR | O_NOCTTY | O_NONBLOCK | O_CLOEXEC);
+    if (l->fd < 0 || !set_up(l->fd, l->baud, l->mode)) wrong = strerror(errno);
+    else if (l->rs485 && !set_direction(l->fd)) wrong = "its driver does not switch the direction (--rs485)";
+    if (wrong == NULL) return NULL;
+    if (l->fd >= 0) close(l->fd);
+    l->fd = -1;
+    return wrong;
+}
+
+/* SER 2.5.1.1: 3.5 characters of 11 bits, and 1.75 ms above 19200 baud; in whole milliseconds, rounded up. */
+static int64_t characters(size_t baud) { return baud > 19200 ? 2 : (int64_t)((38500 + baud - 1) / baud); }
+
 int line_open(struct line *l, const struct options *o, size_t which) {
-    const char *device = o->line[which].device;
     int rtu = o->line[which].transport == DALONJANG_RTU;
-    const char *mode = o->mode != NULL ? o->mode : rtu ? "8E1" : "7E1";
     memset(l, 0, sizeof *l);
     l->transport = o->line[which].transport;
-    l->silence = rtu ? rtu_silence(o) : ASCII_SILENCE;
-    snprintf(l->name, sizeof l->name, "%s %s", rtu ? "rtu" : "ascii", device);
-    l->fd = open(device, O_RDWR | O_NOCTTY | O_NONBLOCK | O_CLOEXEC);
-    if (l->fd >= 0 && set_up(l->fd, o->baud, mode)) return 1;
-    complain("the serial line %s cannot be used: %s", device, strerror(errno));
-    return 0;
+    l->device = o->line[which].device;
+    l->mode = o->mode != NULL ? o->mode : rtu ? "8E1" : "7E1";
+    l->baud = o->baud;
+    l->rs485 = o->rs485;
+    l->pause = !rtu ? ASCII_SILENCE : o->silence > 0 ? (int64_t)o->silence : characters(o->baud);
+    l->silence = !rtu || o->silence > 0 || l->pause > BURSTS ? l->pause : BURSTS;
+    snprintf(l->name, sizeof l->name, "%s %s", rtu ? "rtu" : "ascii", l->device);
+    const char *wrong = start(l);
+    if (wrong != NULL) complain("the serial line %s cannot be used: %s", l->device, wrong);
+    return wrong == NULL;
+}
+
+/* An adapter that was pulled out comes back under its name. What had come and was to go is lost with the line. */
+static void lose(struct line *l, struct station *s, int64_t now) {
+    log_event(s->log, l->name, "lost");
+    complain("the serial line %s is lost; it is tried again twice a second", l->name);
+    close(l->fd);
+    l->fd = -1;
+    l->have = l->pieces = l->out.left = 0;
+    l->paused = 0;
+    l->since = now;
+}
+
+static void try_again(struct line *l, struct station *s, int64_t now) {
+    l->since = now;
+    if (start(l) != NULL) return;
+    log_event(s->log, l->name, "back");
+    complain("the serial line %s is back", l->name);
 }
 
 /* --- frames ------------------------------------------------------------------------------------------------------- */
 
-static void lose(struct line *l, struct station *s) {
-    log_event(s->log, l->name, "lost");
-    complain("the serial line %s is lost", l->name);
-    close(l->fd);
-    l->fd = -1;
+/* The first `len` of the bytes that are held go to the driver as one frame. */
+static void serve(struct line *l, size_t len, struct station *s) {
+    struct outbox *out = &l->out;
+    out->left += station_serve(s, l->name, l->transport, l->in, len, outbox_end(out), outbox_room(out)).length;
+    l->have -= len;
+    memmove(l->in, l->in + len, l->have);
+    size_t gone = 0;
+    while (gone < l->pieces && l->piece[gone] <= len) gone++;
+    l->pieces -= gone;
+    for (size_t i = 0; i < l->pieces; i++) l->piece[i] = l->piece[gone + i] - len;
 }
 
-static void serve(struct line *l, struct station *s) {
-    l->out.left += station_serve(s, l->name, l->transport, l->in, l->have, outbox_end(&l->out), outbox_room(&l->out));
-    l->have = 0;
-}
-
-/* RTU: every byte up to the silence is one frame. The byte after the most makes it FrameBroken; no more are held. */
-static void collect_rtu(struct line *l, const uint8_t *bytes, size_t len) {
+/* RTU: every byte up to the silence is one frame, and what came after a pause is remembered as a piece. Where the
+ * pieces are too long together, the first was a frame by itself. The byte after the most makes a frame FrameBroken; no
+ * more are held. */
+static void collect_rtu(struct line *l, const uint8_t *bytes, size_t len, struct station *s) {
+    if (l->paused && l->pieces == MOST_PIECES) serve(l, l->piece[0], s);
+    if (l->paused) l->piece[l->pieces++] = l->have;
+    l->paused = 0;
+    while (l->pieces > 0 && l->have + len > RTU_MOST) serve(l, l->piece[0], s);
     for (size_t i = 0; i < len && l->have <= RTU_MOST; i++) l->in[l->have++] = bytes[i];
+}
+
+/* SER 6.2.2: over a frame and its own CRC the CRC is 0. */
+static int is_whole(const uint8_t *bytes, size_t len) {
+    unsigned crc = 0xFFFF;
+    for (size_t i = 0; i < len; i++) {
+        crc ^= bytes[i];
+        for (int k = 0; k < 8; k++) crc = crc & 1 ? crc >> 1 ^ 0xA001 : crc >> 1;
+    }
+    return len >= RTU_LEAST && len <= RTU_MOST && crc == 0;
+}
+
+/* RTU: after a pause a frame whose CRC is right is over, from the beginning or from the last pause before which other
+ * bytes came, as the replies of other units do. With a wrong one more may come: the bursts of an adapter have pauses in
+ * them that the line had not. After the silence all is one frame. */
+static void end_rtu(struct line *l, struct station *s, int over) {
+    size_t from = 0;
+    l->paused = 1;
+    for (size_t i = 0; !is_whole(l->in + from, l->have - from); i++) {
+        if (i == l->pieces) {
+            if (over) serve(l, l->have, s);
+            l->paused = !over;
+            return;
+        }
+        from = l->piece[i];
+    }
+    if (from > 0) serve(l, from, s);
+    serve(l, l->have, s);
+    l->paused = 0;
 }
 
 /* ASCII: a colon begins a frame, whatever came before, and LF ends it (SER 2.5.2.1). What stands outside of frames is
@@ -84,7 +173,7 @@ static void collect_ascii(struct line *l, const uint8_t *bytes, size_t len, stru
         if (bytes[i] == ':') l->have = 0;
         else if (l->have == 0) continue;
         if (l->have < sizeof l->in) l->in[l->have++] = bytes[i];
-        if (bytes[i] == '\n') serve(l, s);
+        if (bytes[i] == '\n') serve(l, l->have, s);
     }
 }
 
@@ -93,8 +182,9 @@ struct pollfd line_wants(const struct line *l) {
 }
 
 int64_t line_due(const struct line *l) {
-    if (l->fd < 0 || (l->have == 0 && l->out.left == 0)) return NEVER;
-    return l->since + (l->out.left > 0 ? PATIENCE : l->silence);
+    if (l->fd < 0) return l->since + RETRY;
+    if (l->out.left > 0) return l->since + PATIENCE;
+    return l->have == 0 ? NEVER : l->since + (l->paused ? l->silence : l->pause);
 }
 
 /* The line is quiet when the time is over and still nothing can be read: bytes that came while the host was busy
@@ -102,16 +192,17 @@ int64_t line_due(const struct line *l) {
 void line_hear(struct line *l, short events, struct station *s, int64_t now) {
     uint8_t bytes[CHUNK];
     int over = l->have > 0 && now >= line_due(l);
+    if (l->fd < 0 && now >= line_due(l)) try_again(l, s, now);
     if (l->fd < 0 || l->out.left > 0 || (!over && !(events & (POLLIN | POLLHUP | POLLERR)))) return;
     ssize_t got = read(l->fd, bytes, sizeof bytes);
     if (got > 0) {
-        l->since = now;
-        if (l->transport == DALONJANG_RTU) collect_rtu(l, bytes, (size_t)got);
+        if (l->transport == DALONJANG_RTU) collect_rtu(l, bytes, (size_t)got, s);
         else collect_ascii(l, bytes, (size_t)got, s);
+        l->since = clock_ms();
     } else if (got == 0 || (errno != EAGAIN && errno != EINTR)) {
-        lose(l, s);
+        lose(l, s, now);
     } else if (over && l->transport == DALONJANG_RTU) {
-        serve(l, s);
+        end_rtu(l, s, now >= l->since + l->silence);
     } else if (over) {
         log_event(s->log, l->name, "a frame that did not go on was dropped");
         l->have = 0;
@@ -124,7 +215,7 @@ void line_answer(struct line *l, struct station *s, int64_t now) {
     if (l->fd < 0 || left == 0) return;
     ssize_t sent = outbox_send(&l->out, l->fd);
     if (sent > 0) l->since = now;
-    if (sent < 0) lose(l, s);
+    if (sent < 0) lose(l, s, now);
     else if (l->out.left == left && now >= line_due(l)) {
         log_event(s->log, l->name, "a reply that was not taken was dropped");
         l->out.left = 0;

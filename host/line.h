@@ -6,14 +6,21 @@
 #include "station.h"
 #include <poll.h>
 
+enum { MOST_PIECES = 16 };
+
 struct line {
-    int fd; /* -1: lost */
+    int fd; /* -1: lost; it is tried again */
     uint8_t transport;
+    const char *device, *mode;
+    size_t baud;
+    int rs485;
     char name[64];
     uint8_t in[512]; /* one more than the longest ASCII frame; RTU uses half of it */
     size_t have;
-    int64_t silence; /* in milliseconds: what ends an RTU frame, and drops an ASCII one */
-    int64_t since;   /* when the last byte came or went */
+    int64_t pause, silence; /* in milliseconds: RTU, what ends a frame that is whole, and any; ASCII, what drops one */
+    int paused;             /* RTU: the pause is over, and what came is not a whole frame */
+    size_t piece[MOST_PIECES], pieces; /* RTU: where in `in` bytes stand that came after a pause */
+    int64_t since;          /* when the last byte came or went, or the line was lost or tried */
     struct outbox out;
 };
 

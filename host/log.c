@@ -1,44 +1,55 @@
 #include "log.h"
+#include "basics.h"
 #include "tables.h"
-#include <time.h>
 
 const char *const outcome_name[OUTCOMES] = {"Answered", "BroadcastDone", "Exception", "BroadcastIgnored", "Foreign",
     "FrameBroken", "FrameCheck", "WrongLength", "BadFunction", "NoRoom", "BadSetup"};
 
-static void put_head(FILE *log, const char *from) {
-    struct timespec t;
+/* A line that grows; it has room for the longest frame and the longest reply in hex. */
+struct text {
+    char bytes[3072];
+    size_t len;
+};
+
+#define put(t, ...) ((t)->len += (size_t)snprintf((t)->bytes + (t)->len, sizeof (t)->bytes - (t)->len, __VA_ARGS__))
+
+static void put_head(struct text *t, const char *from) {
+    struct timespec now;
     struct tm day;
-    char text[32];
-    clock_gettime(CLOCK_REALTIME, &t);
-    gmtime_r(&t.tv_sec, &day);
-    strftime(text, sizeof text, "%Y-%m-%dT%H:%M:%S", &day);
-    fprintf(log, "%s.%03ldZ %s: ", text, t.tv_nsec / 1000000, from);
+    clock_gettime(CLOCK_REALTIME, &now);
+    gmtime_r(&now.tv_sec, &day);
+    t->len = strftime(t->bytes, sizeof t->bytes, "%Y-%m-%dT%H:%M:%S", &day);
+    put(t, ".%03ldZ %s: ", now.tv_nsec / 1000000, from);
 }
 
-static void put_hex(FILE *log, const uint8_t *bytes, size_t len) {
-    for (size_t i = 0; i < len; i++) fprintf(log, "%02X", bytes[i]);
+/* No more than a frame or a reply may have: a stream that broke is held by the kilobyte. */
+static void put_hex(struct text *t, const uint8_t *bytes, size_t len) {
+    size_t shown = len < 512 ? len : 512;
+    for (size_t i = 0; i < shown; i++) put(t, "%02X", bytes[i]);
+    if (shown < len) put(t, "..");
 }
 
-void log_event(FILE *log, const char *from, const char *what) {
+void log_event(struct voice *log, const char *from, const char *what) {
+    struct text t;
     if (log == NULL) return;
-    put_head(log, from);
-    fprintf(log, "%s\n", what);
-    fflush(log);
+    put_head(&t, from);
+    put(&t, "%s", what);
+    voice_line(log, "%s", t.bytes);
 }
 
-void log_frame(FILE *log, const char *from, const uint8_t *frame, size_t len, struct dalonjang_result result,
+void log_frame(struct voice *log, const char *from, const uint8_t *frame, size_t len, struct dalonjang_result result,
     struct written written, const uint8_t *reply) {
+    struct text t;
     if (log == NULL) return;
-    put_head(log, from);
-    put_hex(log, frame, len);
-    fprintf(log, " %s", outcome_name[result.outcome]);
-    if (result.code != 0) fprintf(log, " %u", result.code);
-    if (written.count > 0) fprintf(log, ", wrote %s %zu", table_name[written.table], written.first);
-    if (written.count > 1) fprintf(log, " to %zu", written.first + written.count - 1);
+    put_head(&t, from);
+    put_hex(&t, frame, len);
+    put(&t, " %s", outcome_name[result.outcome]);
+    if (result.code != 0) put(&t, " %u", result.code);
+    if (written.count > 0) put(&t, ", wrote %s %zu", table_name[written.table], written.first);
+    if (written.count > 1) put(&t, " to %zu", written.first + written.count - 1);
     if (result.length > 0) {
-        fputs(", reply ", log);
-        put_hex(log, reply, result.length);
+        put(&t, ", reply ");
+        put_hex(&t, reply, result.length);
     }
-    fputc('\n', log);
-    fflush(log);
+    voice_line(log, "%s", t.bytes);
 }

@@ -2,7 +2,7 @@
 #ifndef LOG_H
 #define LOG_H
 #include "dalonjang.h"
-#include <stdio.h>
+#include "voice.h"
 
 enum { OUTCOMES = 11 };
 extern const char *const outcome_name[OUTCOMES]; /* as document 01 names them */
@@ -14,7 +14,7 @@ struct written {
 };
 
 /* Nothing is written where `log` is NULL. */
-void log_event(FILE *log, const char *from, const char *what);
-void log_frame(FILE *log, const char *from, const uint8_t *frame, size_t len, struct dalonjang_result result,
+void log_event(struct voice *log, const char *from, const char *what);
+void log_frame(struct voice *log, const char *from, const uint8_t *frame, size_t len, struct dalonjang_result result,
     struct written written, const uint8_t *reply);
 #endif

@@ -6,8 +6,7 @@
 enum { MOST_LINES = 8, MOST_CLIENTS = 256 };
 
 struct options {
-    const char *address; /* as written; the number below is the same for a machine, in network order */
-    uint32_t ip;
+    const char *address; /* a number or a name, as written */
     size_t port, clients, idle, patience; /* the last two in seconds; idle 0: for ever */
     int no_tcp;
     size_t unit;
@@ -16,10 +15,12 @@ struct options {
     size_t cells[TABLES];
     struct { const char *device; uint8_t transport; } line[MOST_LINES];
     size_t lines, baud, silence; /* silence in milliseconds; 0: as the speed asks */
+    int rs485;                   /* the lines' drivers switch the direction */
     const char *mode;            /* 8E1 and the like, or NULL */
-    const char *image, *log;     /* or NULL */
+    const char *image, *import, *log; /* or NULL */
+    int export;                  /* the tables are written as text, and nothing is served */
 };
 
-/* Answers -1 to go on; otherwise the status to end with, after --help (0) or a line on what is wrong (2). */
+/* Answers -1 to go on; otherwise the status to end with, after --help or --version (0) or a line on what is wrong (2). */
 int options_read(struct options *o, int argc, char **argv);
 #endif

@@ -1,4 +1,5 @@
 #include "station.h"
+#include "basics.h"
 
 int station_open(struct station *s, const struct options *o) {
     const struct table *coils = &s->table[COILS], *discretes = &s->table[DISCRETES];
@@ -12,42 +13,60 @@ int station_open(struct station *s, const struct options *o) {
         .discretes = discretes->bytes, .discretes_len = discretes->len,
         .holdings = holdings->bytes, .holdings_len = holdings->len,
         .inputs = inputs->bytes, .inputs_len = inputs->len};
-    s->image = o->image;
     return 1;
 }
 
-/* The cells of a request that was served: they stand in the six bytes from the unit on, however the frame travels. */
-static struct written written_by(uint8_t transport, const uint8_t *frame, size_t len) {
-    uint8_t decoded[255];
-    const uint8_t *body = transport == DALONJANG_TCP ? frame + 6 : frame;
-    if (transport == DALONJANG_ASCII) {
-        dalonjang_parse_ascii_frame(frame, len, len, decoded, sizeof decoded, 0);
-        body = decoded;
-    }
-    size_t first = (size_t)body[2] << 8 | body[3], count = (size_t)body[4] << 8 | body[5];
-    switch (body[1]) {
-    case 5: return (struct written){COILS, first, 1};
-    case 6: return (struct written){HOLDINGS, first, 1};
-    case 15: return (struct written){COILS, first, count};
-    case 16: return (struct written){HOLDINGS, first, count};
+struct request {
+    uint8_t unit, function;
+    size_t first, second; /* the words after them */
+};
+
+/* Of a frame that was served: it stands in the six bytes from the unit on, however the frame travels. A body that is
+ * shorter has no words. */
+static struct request request_of(uint8_t transport, const uint8_t *frame, size_t len) {
+    uint8_t body[255] = {0};
+    size_t header = transport == DALONJANG_TCP ? 6 : 0;
+    if (transport == DALONJANG_ASCII) dalonjang_parse_ascii_frame(frame, len, len, body, sizeof body, 0);
+    else if (len > header) memcpy(body, frame + header, len - header < sizeof body ? len - header : sizeof body);
+    return (struct request){body[0], body[1], (size_t)body[2] << 8 | body[3], (size_t)body[4] << 8 | body[5]};
+}
+
+static struct written written_by(struct request asked) {
+    switch (asked.function) {
+    case 5: return (struct written){COILS, asked.first, 1};
+    case 6: return (struct written){HOLDINGS, asked.first, 1};
+    case 15: return (struct written){COILS, asked.first, asked.second};
+    case 16: return (struct written){HOLDINGS, asked.first, asked.second};
     default: return (struct written){0, 0, 0};
     }
 }
 
-size_t station_serve(struct station *s, const char *from, uint8_t transport, const uint8_t *frame, size_t len,
-    uint8_t *reply, size_t room) {
+/* Some clients ask unit 0 or 255 over TCP unless they are told otherwise, and would wait in vain. */
+static void hint(struct station *s, const char *from, uint8_t asked) {
+    if ((asked != 0 && asked != 255) || s->hinted[asked]) return;
+    s->hinted[asked] = 1;
+    complain("%s asks unit %u and gets no reply: ours is %u (--unit %u%s would serve it)", from, asked,
+        s->unit.setup.unit, asked, memchr(s->unit.list, asked, s->unit.list_len) ? " --broadcast none" : "");
+}
+
+struct dalonjang_result station_serve(struct station *s, const char *from, uint8_t transport, const uint8_t *frame,
+    size_t len, uint8_t *reply, size_t room) {
     struct written written = {0, 0, 0};
     s->unit.setup.transport = transport;
     struct dalonjang_result r = dalonjang_serve(&s->unit, frame, len, reply, room);
-    if (r.outcome <= DALONJANG_BROADCAST_DONE) written = written_by(transport, frame, len);
+    struct request asked = request_of(transport, frame, len);
+    int done = r.outcome == DALONJANG_ANSWERED || r.outcome == DALONJANG_BROADCAST_DONE;
+    if (done) written = written_by(asked);
+    if (transport == DALONJANG_TCP && (r.outcome == DALONJANG_FOREIGN || r.outcome == DALONJANG_BROADCAST_IGNORED))
+        hint(s, from, asked.unit);
     s->served[r.outcome]++;
-    s->unsaved |= written.count > 0;
+    s->unsaved |= done && (asked.function < 1 || asked.function > 4);
     log_frame(s->log, from, frame, len, r, written, reply);
-    return r.length;
+    return r;
 }
 
 int station_keep(struct station *s) {
-    if (s->image != NULL && s->unsaved && !image_save(s->image, s->table)) return 0;
+    if (s->image.db != NULL && s->unsaved && !image_keep(&s->image, s->table)) return 0;
     s->unsaved = 0;
     return 1;
 }

@@ -2,6 +2,7 @@
  * is called. */
 #ifndef STATION_H
 #define STATION_H
+#include "image.h"
 #include "log.h"
 #include "options.h"
 #include "tables.h"
@@ -9,18 +10,19 @@
 struct station {
     struct table table[TABLES];
     struct dalonjang_unit unit; /* over these tables; its transport is that of each frame */
-    FILE *log;         /* or NULL */
-    const char *image; /* or NULL */
-    int unsaved;       /* cells were written since the image was saved */
+    struct voice *log;  /* or NULL */
+    struct image image; /* whose database is NULL where there is none */
+    int unsaved;        /* a frame was served since the image was saved that may have changed cells */
+    int hinted[256];    /* of these unit numbers it was said that nobody answers them */
     unsigned long served[OUTCOMES];
 };
 
 /* Tables of zeros and the unit over them; `o` must stay, since it has the list. Answers 0 where there is no memory. */
 int station_open(struct station *s, const struct options *o);
 
-/* Answers the length of the reply, 0 for none. */
-size_t station_serve(struct station *s, const char *from, uint8_t transport, const uint8_t *frame, size_t len,
-    uint8_t *reply, size_t room);
+/* The reply stands in the first `length` bytes of `reply`. */
+struct dalonjang_result station_serve(struct station *s, const char *from, uint8_t transport, const uint8_t *frame,
+    size_t len, uint8_t *reply, size_t room);
 
 /* To be called before replies go out, so that whatever a client was told is in the image. Answers 0 where it cannot be
  * saved. */

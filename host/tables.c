@@ -1,13 +1,10 @@
 #include "tables.h"
 #include "basics.h"
-#include <errno.h>
-#include <fcntl.h>
-#include <limits.h>
-#include <unistd.h>
 
 #define FIRST_LINE "dalonjang tables"
 #define LAST_LINE "end"
-#define BLANKS " \t\r\n"
+#define BLANKS " \t"
+#define DATABASE "SQLite format 3"
 enum { ROW = 16, LINE_ROOM = 4096 };
 
 const char *const table_name[TABLES] = {"coils", "discretes", "holdings", "inputs"};
@@ -38,7 +35,7 @@ static void put_cell(struct table tables[TABLES], int which, size_t n, size_t va
     }
 }
 
-/* --- from the file ------------------------------------------------------------------------------------------------ */
+/* --- from text ---------------------------------------------------------------------------------------------------- */
 
 /* A table's name, a cell, and the values of that cell and of those after it. Answers what is wrong, or NULL. */
 static const char *take_row(struct table tables[TABLES], char *row) {
@@ -56,36 +53,48 @@ static const char *take_row(struct table tables[TABLES], char *row) {
     return NULL;
 }
 
+/* What is wrong with how a line ends, or NULL; its end is cut off. */
+static const char *cut_end(char *line) {
+    size_t len = strcspn(line, "\n");
+    if (line[len] == 0) return "cut short, or longer than 4000 characters";
+    if (len > 0 && line[len - 1] == '\r') return "it ends in CR LF; here lines end in LF alone";
+    line[len] = 0;
+    return NULL;
+}
+
 /* Answers what is wrong with the line `*at`, or NULL. */
 static const char *take_rows(FILE *file, struct table tables[TABLES], unsigned *at) {
     char line[LINE_ROOM];
     const char *wrong = NULL;
+    int ended = 0;
     for (*at = 1; fgets(line, sizeof line, file) != NULL; ++*at) {
-        size_t len = strcspn(line, "\n");
-        if (line[len] == 0) return "cut short, or longer than 4000 characters";
-        line[len] = 0;
+        if (*at == 1 && strncmp(line, DATABASE, strlen(DATABASE)) == 0) return "a database: --image takes it";
+        if ((wrong = cut_end(line)) != NULL) return wrong;
         if (*at == 1 && strcmp(line, FIRST_LINE) != 0) return "not '" FIRST_LINE "'";
-        if (strcmp(line, LAST_LINE) == 0) return NULL;
-        if (*at > 1 && line[0] != '#' && line[strspn(line, BLANKS)] != 0) wrong = take_row(tables, line);
-        if (wrong != NULL) return wrong;
+        if (*at == 1 || line[0] == '#' || line[strspn(line, BLANKS)] == 0) continue;
+        if (ended) return "a row after the line '" LAST_LINE "'";
+        ended = strcmp(line, LAST_LINE) == 0;
+        if (!ended && (wrong = take_row(tables, line)) != NULL) return wrong;
     }
-    return "no line '" LAST_LINE "': the image is not whole";
+    if (ferror(file)) return strerror(errno);
+    return ended ? NULL : "no line '" LAST_LINE "': the text is not whole";
 }
 
-int image_load(const char *path, struct table tables[TABLES]) {
+int tables_import(const char *path, struct table tables[TABLES]) {
     unsigned at = 0;
     FILE *file = fopen(path, "r");
-    if (file == NULL && errno == ENOENT) return 1;
     const char *wrong = file == NULL ? strerror(errno) : take_rows(file, tables, &at);
+    int unreadable = file == NULL || ferror(file);
+    if (wrong != NULL && unreadable) complain("%s cannot be read: %s", path, wrong);
+    else if (wrong != NULL) complain("%s, line %u: %s", path, at, wrong);
     if (file != NULL) fclose(file);
-    if (file == NULL) complain("the image %s cannot be read: %s", path, wrong);
-    else if (wrong != NULL) complain("the image %s, line %u: %s", path, at, wrong);
     return wrong == NULL;
 }
 
-/* --- to the file -------------------------------------------------------------------------------------------------- */
+/* --- to text ------------------------------------------------------------------------------------------------------ */
 
-static void put_rows(FILE *file, const struct table tables[TABLES]) {
+void tables_export(FILE *file, const struct table tables[TABLES]) {
+    fputs(FIRST_LINE "\n# written by --export, for --import; a remark in it is lost when it is written again\n", file);
     for (int t = 0; t < TABLES; t++) {
         for (size_t first = 0; first < tables[t].cells; first += ROW) {
             size_t end = first + ROW < tables[t].cells ? first + ROW : tables[t].cells, n = first;
@@ -96,37 +105,5 @@ static void put_rows(FILE *file, const struct table tables[TABLES]) {
             fputc('\n', file);
         }
     }
-}
-
-/* A new name is on the disk only when its directory is. */
-static int sync_directory(const char *path) {
-    char directory[PATH_MAX];
-    const char *slash = strrchr(path, '/');
-    snprintf(directory, sizeof directory, "%.*s", slash == NULL ? 0 : (int)(slash - path) + 1, path);
-    if (slash == NULL) strcpy(directory, ".");
-    int fd = open(directory, O_RDONLY | O_CLOEXEC);
-    if (fd < 0) return 0;
-    int done = fsync(fd) == 0 || errno == EINVAL; /* some file systems cannot sync a directory, and need not */
-    close(fd);
-    return done;
-}
-
-int image_save(const char *path, const struct table tables[TABLES]) {
-    char fresh[PATH_MAX];
-    int done = 0;
-    if (snprintf(fresh, sizeof fresh, "%s.new", path) >= (int)sizeof fresh) {
-        complain("the image %s: too long a name", path);
-        return 0;
-    }
-    FILE *file = fopen(fresh, "w");
-    if (file != NULL) {
-        fputs(FIRST_LINE "\n", file);
-        put_rows(file, tables);
-        fputs(LAST_LINE "\n", file);
-        done = fflush(file) == 0 && fsync(fileno(file)) == 0;
-        done = fclose(file) == 0 && done;
-    }
-    if (done && rename(fresh, path) == 0 && sync_directory(path)) return 1;
-    complain("the image %s cannot be saved: %s", path, strerror(errno));
-    return 0;
+    fputs(LAST_LINE "\n", file);
 }

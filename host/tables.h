@@ -1,8 +1,9 @@
-/* The four tables that are served, and their image: a text file that holds the cells that are not zero. */
+/* The four tables that are served, and their text: the cells that are not zero, for people to read and to write. */
 #ifndef TABLES_H
 #define TABLES_H
 #include <stddef.h>
 #include <stdint.h>
+#include <stdio.h>
 
 enum { COILS, DISCRETES, HOLDINGS, INPUTS, TABLES };
 extern const char *const table_name[TABLES];
@@ -15,10 +16,8 @@ struct table {
 /* Every cell zero. Answers 0 where there is no memory. */
 int tables_make(struct table tables[TABLES], const size_t cells[TABLES]);
 
-/* Both answer 0 after a line on standard error. A file that is not there is an image of zeros; one that is not whole,
- * or names what the tables do not have, is refused. */
-int image_load(const char *path, struct table tables[TABLES]);
-/* Written whole to a new file beside it, which then takes its name: at every moment one whole image stands at `path`,
- * and when this answers 1 it is the new one, on the disk. */
-int image_save(const char *path, const struct table tables[TABLES]);
+/* Lays the rows of a text over the tables. Answers 0 after a line on standard error, where the text is not whole, or
+ * names what the tables do not have. */
+int tables_import(const char *path, struct table tables[TABLES]);
+void tables_export(FILE *file, const struct table tables[TABLES]);
 #endif

@@ -39,6 +39,9 @@
 extern "C" {
 #endif
 
+/* Of this header and the library that comes with it. A call that is there stays as it is within a major number. */
+#define DALONJANG_VERSION "1.0.0"
+
 /* How frames travel. Any other number is refused: 10 before all else. */
 enum dalonjang_transport {
     DALONJANG_RTU = 0,   /* bytes, then the CRC, low byte first */

@@ -10,9 +10,10 @@ import host_lines
 import host_requests
 import host_starts
 import host_streams
+import host_voices
 from serving import Wrong
 
-PARTS = (host_requests, host_streams, host_lines, host_images, host_starts)
+PARTS = (host_requests, host_streams, host_lines, host_images, host_voices, host_starts)
 
 
 def main():

@@ -1,4 +1,5 @@
 """The server and its TCP streams: pieces, many clients, slow ones, broken ones, noise."""
+import contextlib
 import os
 import random
 import socket
@@ -6,7 +7,7 @@ import threading
 import time
 
 from preset import Preset, READ, READ_REPLY
-from serving import PATIENCE, Client, Server, Wrong, asked, check, same, tcp, values_of, words
+from serving import PATIENCE, Client, Server, Wrong, asked, check, same, soon, tcp, values_of, words
 
 
 def test_pieces(program):
@@ -124,7 +125,8 @@ def test_noise(program):
 
 
 def test_places(program):
-    """With all places taken, a new client takes that of the longest silent."""
+    """With all places taken, a new client takes that of one that never asked, whenever that came; else that of the
+    longest silent."""
     with Preset(program, "--clients", "2") as server, Client(server.port) as first, Client(server.port) as second:
         same(second.ask(READ), READ_REPLY, "the second client's reply")
         same(first.ask(READ), READ_REPLY, "the first client's reply")
@@ -132,3 +134,108 @@ def test_places(program):
             same(third.ask(READ), READ_REPLY, "the third client's reply")
             same(second.closed(), b"", "what the silent client is sent")
             same(first.ask(READ), READ_REPLY, "the first client's reply")
+    with Preset(program, "--clients", "2") as server, Client(server.port) as first:
+        same(first.ask(READ), READ_REPLY, "the first client's reply")
+        for wordless in (b"", tcp(READ)[:5], b"\0\1\0\1\0\6" + READ):
+            with Client(server.port) as idle:
+                idle.send(wordless)
+                soon(lambda: sum(line.endswith("came") for line in server.log()) % 2 == 0, "it is not let in")
+                with Client(server.port) as third:
+                    same(third.ask(READ), READ_REPLY, "the third client's reply")
+                    with contextlib.suppress(ConnectionResetError):  # where something of it was not read
+                        same(idle.closed(), b"", "what the client that never asked is sent")
+            soon(lambda: server.log()[-1].endswith("gone"), "the third client is not gone")
+        same(first.ask(READ), READ_REPLY, "the first client's reply")
+
+
+def connect_idly(port, rate, seconds):
+    """So many connections a second that say nothing; the last hundred stay open."""
+    begun, held = time.monotonic(), []
+    for n in range(int(rate * seconds)):
+        time.sleep(max(0, begun + n / rate - time.monotonic()))
+        held.append(socket.socket())
+        held[-1].setblocking(False)
+        held[-1].connect_ex(("127.0.0.1", port))
+        if len(held) > 100:
+            held.pop(0).close()
+    for each in held:
+        each.close()
+
+
+def come_until_served(port):
+    """As clients do: one that was closed before it could ask, since others came meanwhile, comes again."""
+    for _ in range(50):
+        with contextlib.suppress(Wrong, OSError), Client(port) as client:
+            same(client.ask(READ), READ_REPLY, "a new client's reply")
+            return
+    raise Wrong("a new client is not served among idle connects")
+
+
+def test_idle_connects(program):
+    """Who connects and says nothing, 50 and 1,000 times a second, costs a client nothing that polls, nor one that has
+    asked once; and a client that comes in the midst of it is served."""
+    for rate in (50, 1000):
+        with Preset(program, "--clients", "4") as server, Client(server.port) as polling, Client(server.port) as seldom:
+            same(seldom.ask(READ), READ_REPLY, "the reply to the client that asks seldom")
+            crowd = threading.Thread(target=connect_idly, args=(server.port, rate, 2.5))
+            crowd.start()
+            while crowd.is_alive():
+                same(polling.ask(READ), READ_REPLY, f"the reply among {rate} idle connects a second")
+                come_until_served(server.port)
+                time.sleep(0.2)
+            crowd.join()
+            same(seldom.ask(READ), READ_REPLY, "the reply to the client that asks seldom, afterwards")
+
+
+def poll_alone(port):
+    """Polls for 2 seconds while others wait for the only place; the longest time between two requests."""
+    crowd = threading.Thread(target=connect_idly, args=(port, 50, 2))
+    longest, last = 0, None
+    with Client(port) as polling:
+        same(polling.ask(READ), READ_REPLY, "the first reply")
+        crowd.start()
+        try:
+            while crowd.is_alive():
+                last = time.monotonic()
+                time.sleep(0.1)
+                same(polling.ask(READ), READ_REPLY, "the reply to the client that polls")
+                longest = max(longest, time.monotonic() - last)
+        except (Wrong, OSError):
+            check(time.monotonic() - last > 0.8, "a client that asked within the last second is closed")
+            longest = 1
+        finally:
+            crowd.join()
+    return longest
+
+
+def test_one_place(program):
+    """Who asked within the last second keeps even the only place; tries in which this machine itself took longer do
+    not count."""
+    for _ in range(20):
+        with Preset(program, "--clients", "1") as server:
+            if poll_alone(server.port) < 0.8:
+                same(sum("a client waits, since all 1 places" in line for line in server.output().splitlines()), 1,
+                     "how often it is said that somebody waits")
+                return
+    raise Wrong("this machine pauses too often")
+
+
+def test_crowded_writers(program):
+    """60 clients at once for one place, each of which comes again until its write is answered: no write is done whose
+    reply is not sent, so that none is done twice."""
+    replied = []
+
+    def write(port, own):
+        end = time.monotonic() + 60
+        while own not in replied and time.monotonic() < end:
+            with contextlib.suppress(Wrong, OSError), Client(port) as client:
+                same(client.ask(asked(6, own, own + 1)), asked(6, own, own + 1), "an echo")
+                replied.append(own)
+    with Preset(program, "--clients", "1") as server:
+        writers = [threading.Thread(target=write, args=(server.port, own)) for own in range(60)]
+        for writer in writers:
+            writer.start()
+        for writer in writers:
+            writer.join()
+        done = sum("wrote holdings" in line for line in server.log())
+        same((len(replied), done), (60, 60), "writers that were answered, and writes that were done")

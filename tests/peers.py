@@ -52,12 +52,12 @@ def wire(room):
         socat.wait()
 
 
-def alone(program, name, transport, image):
+def alone(program, name, transport, text):
     with contextlib.ExitStack() as stack:
-        options, where = ["--image", image, "--cells", str(CELLS)], None
+        options, where = ["--import", text, "--image", text + ".db", "--cells", str(CELLS)], None
         if transport != "tcp":
-            own, where = stack.enter_context(wire(os.path.dirname(image)))
-            options += [f"--{transport}", own, "--silence", "20"]
+            own, where = stack.enter_context(wire(os.path.dirname(text)))
+            options += [f"--{transport}", own]
         server = stack.enter_context(Server(program, *options))
         said = outcome(name, start(name, transport, where or server.port, 0))
         print(f"{name} over {transport.upper()}: functions {said}", flush=True)
@@ -67,7 +67,7 @@ BROKEN = (b"GET / HTTP/1.1\r\n\r\n", b"\0\1\0\0\xff\xff" + bytes(300), b"\0\1\0\
           b"\0\1\0\1\0\6" + asked(3, 0, 1), bytes(range(256)) * 8)
 
 
-def crowd(program, names, image):
+def crowd(program, names, text):
     over, sent = threading.Event(), [0]
 
     def break_streams(port):
@@ -76,7 +76,7 @@ def crowd(program, names, image):
                 client.send(BROKEN[sent[0] % len(BROKEN)])
                 sent[0] += 1
                 over.wait(0.01)
-    with Server(program, "--image", image, "--cells", str(CELLS)) as server:
+    with Server(program, "--import", text, "--image", text + ".db", "--cells", str(CELLS)) as server:
         noise = threading.Thread(target=break_streams, args=(server.port,))
         noise.start()
         try:
@@ -101,14 +101,14 @@ def main():
     for run in runs:
         what, _, how = run.partition(":")
         with tempfile.TemporaryDirectory() as room:
-            image = os.path.join(room, "image")
-            with open(image, "w", encoding="utf-8") as file:
+            text = os.path.join(room, "text")
+            with open(text, "w", encoding="utf-8") as file:
                 file.write(IMAGE)
             try:
                 if what == "crowd":
-                    crowd(program, how.split(","), image)
+                    crowd(program, how.split(","), text)
                 else:
-                    alone(program, what, how, image)
+                    alone(program, what, how, text)
             except (Wrong, OSError) as fault:
                 print(f"wrong: {run}: {fault}")
                 return 1

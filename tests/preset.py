@@ -21,17 +21,19 @@ READ_REPLY = bytes([1, 3, 4]) + words(258, 772)
 
 
 class Preset(Server):
-    """On tables with the values above."""
+    """On tables with the values above, which are kept in an image."""
 
-    def __init__(self, program, *options):
-        self.image = tempfile.NamedTemporaryFile("w", suffix=".image", delete=False)
-        self.image.write(PRESET)
-        self.image.close()
-        super().__init__(program, "--image", self.image.name, "--coils", "2000", *options)
+    def __init__(self, program, *options, **how):
+        self.folder = tempfile.TemporaryDirectory()
+        text = os.path.join(self.folder.name, "text")
+        with open(text, "w", encoding="utf-8") as file:
+            file.write(PRESET)
+        super().__init__(program, "--import", text, "--image", os.path.join(self.folder.name, "image"),
+                         "--coils", "2000", *options, **how)
 
     def __exit__(self, *how):
         super().__exit__(*how)
-        os.unlink(self.image.name)
+        self.folder.cleanup()
 
 
 def exchange(end, wrap, body, wanted):

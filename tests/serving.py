@@ -86,32 +86,34 @@ def ascii_line(body):
 
 # --- the server -------------------------------------------------------------------------------------------------------
 
-def run(program, *options, descriptors=1024):
+def run(program, *options, descriptors=1024, **how):
     """Of a server that shall not start: status, standard output, lines of standard error."""
-    command = ["bash", "-c", f'ulimit -Sn {descriptors} && exec bin/x86run "$@"', "bash", program, *options]
-    done = subprocess.run(command, capture_output=True, text=True, timeout=PATIENCE, check=False)
+    command = ["bash", "-c", f'ulimit -Sn {descriptors} && exec "$@"', "bash", os.path.abspath(program), *options]
+    done = subprocess.run(command, capture_output=True, text=True, timeout=PATIENCE, check=False, **how)
     return done.returncode, done.stdout, done.stderr.splitlines()
 
 
 class Server:
     """Runs from `with` on, and must end by SIGINT with status 0."""
 
-    def __init__(self, program, *options, port="0"):
+    def __init__(self, program, *options, port="0", **how):
         self.room = tempfile.TemporaryDirectory()
         self.log_path = os.path.join(self.room.name, "log")
         self.said = open(os.path.join(self.room.name, "said"), "w+", encoding="utf-8")
-        self.process = subprocess.Popen(["bin/x86run", program, "--port", port, "--log", self.log_path, *options],
-                                        stdout=self.said, stderr=subprocess.STDOUT)
+        how = {"stdout": self.said, "stderr": self.said, **how}
+        self.ready = how["stdout"] is not self.said  # where it says so, nobody here hears it
+        self.process = subprocess.Popen([os.path.abspath(program), "--port", port, "--log", self.log_path, *options],
+                                        **how)
         self.port = None
 
     def __enter__(self):
         end = time.monotonic() + 60
-        while "Control-C" not in self.output():
+        while not self.ready and "Control-C" not in self.output():
             if self.process.poll() is not None or time.monotonic() > end:
                 self.kill()
                 sys.exit(f"the server does not start: {self.output()}")  # no test has seen anything then
             time.sleep(0.02)
-        first = self.output().splitlines()[0]
+        first = self.output().partition("\n")[0]
         self.port = int(first.rpartition(":")[2]) if "TCP" in first else None
         return self
 
@@ -148,7 +150,7 @@ class Client:
     """One TCP connection."""
 
     def __init__(self, port, receive_room=None, address="127.0.0.1"):
-        self.socket = socket.socket()
+        self.socket = socket.socket(socket.AF_INET6 if ":" in address else socket.AF_INET)
         if receive_room:
             self.socket.setsockopt(socket.SOL_SOCKET, socket.SO_RCVBUF, receive_room)
         self.socket.settimeout(PATIENCE)
