@@ -1,5 +1,5 @@
 # The README's commands. `make test` is what .ci/run calls; its last line is rt ci's 'N passed, 0 failed'.
-.PHONY: help test proved prove beside frame-runs driver-runs host-runs package-runs peers lib measure serve install clean
+.PHONY: help test proved prove beside frame-runs driver-runs targets host-runs package-runs peers lib measure serve install clean
 .NOTPARALLEL: # the runs use what rt ci has proved
 PREFIX ?= /usr/local
 
@@ -10,7 +10,7 @@ help:
 	    /^[a-z-]+:/ && said != "" { sub(":.*", ""); printf "  %-12s %s\n", $$0, said } { said = "" }' Makefile
 
 # everything; the verdict is said at the end, when the runs are through, and only then
-test: proved beside frame-runs driver-runs targets host-runs peers package-runs
+test: proved beside frame-runs driver-runs targets host-runs package-runs peers
 	@tail -n 1 out/ci.log | grep -x '[0-9]* passed, 0 failed'
 
 # every crate proved from nothing, the must-fail edits refused, the programs run
@@ -32,6 +32,11 @@ frame-runs:
 driver-runs:
 	@bin/driver-runs $(RUNS)
 
+# the library for every processor: its layout, size and stack, and runs on each as far as an emulator can be had (UPDATE=1
+# writes docs/TARGETS.md)
+targets:
+	@UPDATE=$(UPDATE) bin/targets $(TARGET)
+
 # the server of host/ by a client of our own: streams, clients, lines, image, options
 host-runs:
 	@bin/host-runs
@@ -44,11 +49,10 @@ package-runs:
 peers:
 	@bin/peers
 
-# the static library for firmware
+# the static library for firmware, for this machine's processor (TARGET=cortex-m3 for another; an unknown one lists them)
 lib:
 	@bin/proved dalonjang
-	@mkdir -p out && rt staticlib dalonjang >out/lib.log 2>&1 || { cat out/lib.log >&2; exit 1; }
-	@echo 'target/staticlib/libdalonjang.a, with include/dalonjang.h'
+	@bin/lib $(TARGET)
 
 # instructions per request beside two peers, held against docs/COST.md (UPDATE=1 writes it)
 measure:

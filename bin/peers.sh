@@ -77,13 +77,14 @@ build_peers() {
         build_libmodbus libmodbus && build_libmodbus libmodbus-reply -DREPLY_ALONE=1
 }
 
-# $emulator: the kit's where it has one, else this machine's, else Debian's unpacked
+# find_emulator [PROCESSOR]: $emulator for it, or for x86_64: the kit's where it has one, else this machine's, else
+# Debian's unpacked
 find_emulator() {
-    local kit=${RATTLE_HOME:-$(dirname "$(dirname "$(rt doc)")")} package
+    local kit=${RATTLE_HOME:-$(dirname "$(dirname "$(rt doc)")")} package name=qemu-${1:-x86_64}
     for package in '' qemu-user-static qemu-user; do # the second has it in Debian 12, the third from 13 on
         [ -z "$package" ] || { debian "$here" apt-get update && unpack "$here" $package; } || return
-        for emulator in "$kit/on/$(uname -m)/toolchain/bin/qemu-x86_64" "$(command -v qemu-x86_64)" \
-            "$(command -v qemu-x86_64-static)" "$usr"/bin/qemu-x86_64{-static,}; do
+        for emulator in "$kit/on/$(uname -m)/toolchain/bin/$name" "$(command -v "$name")" \
+            "$(command -v "$name-static")" "$usr/bin/$name"{-static,}; do
             [ ! -x "$emulator" ] || return 0
         done
     done

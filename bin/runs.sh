@@ -124,17 +124,12 @@ library() {
     fi
 }
 
-# machine_library: $LIB, or the library for this machine's own compiler and linker, from the sources as they stand
+# machine_library: $LIB, or the library for this machine's processor, from the sources as they stand
 machine_library() {
-    local machine made
-    machine=$(uname -m)
-    made=target/lib/$machine/libdalonjang.a
-    if [ "$machine" = x86_64 ] && [ ! -e "$made" ]; then
-        library dalonjang
-    elif [ -z "${LIB:-}" ]; then
+    if [ -z "${LIB:-}" ]; then
         prove_crate dalonjang
-        logged lib make --no-print-directory lib "TARGET=$machine"
-        LIB=$made
+        logged lib bin/lib
+        LIB=target/lib/$(uname -m)/libdalonjang.a
     fi
 }
 
@@ -211,10 +206,11 @@ all_seen() {
 }
 
 # compare CHECK COMMAND N: the statuses of both programs, as "vectors check"
+# compare CHECK COMMAND N: the statuses of both programs, as "vectors check"; CHECK is run by $RUN, or as x86-64's
 compare() {
     local status
     set +e
-    "$vectors" "$2" "$3" "$seed" 2>out/vectors.log | bin/x86run "$1" "$3" >out/check.log 2>&1
+    "$vectors" "$2" "$3" "$seed" 2>out/vectors.log | "${RUN:-bin/x86run}" "$1" "$3" >out/check.log 2>&1
     status=("${PIPESTATUS[@]}")
     set -e
     echo "${status[*]}"

@@ -1,4 +1,4 @@
-/* Dalonjang: a proved Modbus server for firmware in C or C++. Link with libdalonjang.a (`rt staticlib dalonjang`).
+/* Dalonjang: a proved Modbus server for firmware in C or C++. Link with libdalonjang.a (`make lib TARGET=..`).
  *
  * One call takes one whole request frame as it came over the line, serves it on four tables that you lend, and writes
  * the reply frame into a buffer that you lend. Four more calls help to collect a frame byte by byte and to turn bytes
@@ -11,8 +11,15 @@
  *   The calls cannot see an overlap and do not refuse it.
  * State. There is none: no allocation, no static data, no input or output. Every call is reentrant and may run in any
  *   thread or interrupt, as long as nobody else uses the lent buffers meanwhile.
- * Stack. Leave 2 KiB for a call; on every transport less was measured. No recursion.
- * Linking. The library is for x86-64 and takes one function from outside, memcpy.
+ * Stack. Leave 1 KiB for a call. dalonjang_drive takes the most: up to 850 bytes on cortex-m0, 800 on cortex-m3, 800 on
+ *   cortex-m4, 800 on armv7, 750 on x86_64, 700 on aarch64; arguments that lie on the stack (at most 104) come on top.
+ *   No recursion.
+ * Interrupts. A call may be interrupted, and may be made in an interrupt that keeps what any C function may change. On
+ *   a Cortex-M the processor does that by itself: no register of a floating point unit is touched. On x86-64 and ARM
+ *   with Linux the vector registers are used, and on x86-64 the 128 bytes below the stack pointer (the red zone).
+ * Linking. A library for each processor: x86_64, aarch64, armv7, cortex-m0, cortex-m3, cortex-m4 (docs/TARGETS.md).
+ *   From outside it takes at most C's memcpy, memmove and memset, on a Cortex-M as __aeabi_memcpy, __aeabi_memmove and
+ *   __aeabi_memclr4. It has no data to be initialized.
  * Every input is answered: a call never crashes, loops or needs anything of its arguments but the above.
  *
  * The rules are those of document 01 (docs/RULES.md); its numbers stand in the enumerators below.
