@@ -12,7 +12,11 @@ static const struct setup
     alone = {1, "", {"00 00", "", "0102 0304 0000 FFFF", ""}, {16, 0, 4, 0}, 0},          /* no broadcast number */
     listed = {1, "00 01", {"00 00", "", "0102 0304 0000 FFFF", ""}, {16, 0, 4, 0}, 0},    /* our unit is one */
     unit_0 = {0, "", {"00 00", "", "0102 0304 0000 FFFF", ""}, {16, 0, 4, 0}, 0},
-    unit_255 = {255, "00", {"00 00", "", "0102 0304 0000 FFFF", ""}, {16, 0, 4, 0}, 0};
+    unit_255 = {255, "00", {"00 00", "", "0102 0304 0000 FFFF", ""}, {16, 0, 4, 0}, 0},
+    bad = {1, "00", {"00 00", "", "0102 0304 0000 FFFF", ""}, {17, 0, 4, 0}, 0},              /* a coil too many */
+    narrow = {1, "00", {"00 00", "", "0102 0304 0000 FFFF", ""}, {16, 0, 4, 0}, 259},         /* no room */
+    narrow_line = {1, "00", {"00 00", "", "0102 0304 0000 FFFF", ""}, {16, 0, 4, 0}, 510},    /* no room on ASCII */
+    bad_narrow = {1, "00", {"00 00", "", "0102 0304 0000 FFFF", ""}, {17, 0, 4, 0}, 259};     /* both */
 
 #define NOTHING 0, 0, ""
 
@@ -75,6 +79,21 @@ static const struct row rows[] = {
     {"holdings 1 and 2", "rat", &odd, "11 10 0001 0002 04 DEAD BEEF", 0, 0, "11 10 0001 0002",
      HOLDINGS, 2, "DEAD BEEF"},
     {"holdings 2 and 3", "rat", &odd, "11 10 0002 0002 04 DEAD BEEF", 2, 2, "11 90 02", NOTHING},
+    {"coils 1 to 8, as sent", "R", &odd, "11 01 0001 0008 6E 9C", 0, 0, "11 01 01 D2 D5 15", NOTHING},
+    {"coils 1 to 8, as sent", "A", &odd, "':110100010008E5\r\n", 0, 0, "':110101D21B\r\n", NOTHING},
+    {"pad bits of a read, as sent", "R", &odd, "11 01 0000 0003 7E 9B", 0, 0, "11 01 01 05 95 4B", NOTHING},
+    {"pad bits of a read, as sent", "A", &odd, "':110100000003EB\r\n", 0, 0, "':11010105E8\r\n", NOTHING},
+    {"discretes 0 to 20, as sent", "R", &odd, "11 02 0000 0015 BB 55", 0, 0, "11 02 03 3C 3C 1C AA 1B", NOTHING},
+    {"discretes 0 to 20, as sent", "A", &odd, "':110200000015D8\r\n", 0, 0, "':1102033C3C1C56\r\n", NOTHING},
+    {"inputs 0 and 1, as sent", "R", &odd, "11 04 0000 0002 73 5B", 0, 0, "11 04 04 8899 AABB 2F 19", NOTHING},
+    {"inputs 0 and 1, as sent", "A", &odd, "':110400000002E9\r\n", 0, 0, "':1104048899AABB61\r\n", NOTHING},
+    {"coils 4 to 11, as sent", "R", &odd, "11 0F 0004 0008 01 CD CF CC", 0, 0,
+     "11 0F 0004 0008 17 5C", COILS, 0, "D5 AC"},
+    {"coils 4 to 11, as sent", "A", &odd, "':110F0004000801CD06\r\n", 0, 0, "':110F00040008D4\r\n", COILS, 0, "D5 AC"},
+    {"holdings 1 and 2, as sent", "R", &odd, "11 10 0001 0002 04 DEAD BEEF FD 46", 0, 0,
+     "11 10 0001 0002 12 98", HOLDINGS, 2, "DEAD BEEF"},
+    {"holdings 1 and 2, as sent", "A", &odd, "':11100001000204DEADBEEFA0\r\n", 0, 0,
+     "':111000010002DC\r\n", HOLDINGS, 2, "DEAD BEEF"},
 
     /* value of function 5, any value of function 6 */
     {"value FF00", "rat", &bench, "01 05 0000 FF00", 0, 0, "01 05 0000 FF00", COILS, 0, "01"},
@@ -176,6 +195,8 @@ static const struct row rows[] = {
     {"the list wins, read", "rat", &listed, "01 03 0000 0001", 3, 0, "", NOTHING},
     {"first of the list", "rat", &odd, "00 06 0002 1234", 1, 0, "", HOLDINGS, 4, "1234"},
     {"second of the list", "rat", &odd, "F7 06 0002 1234", 1, 0, "", HOLDINGS, 4, "1234"},
+    {"second of the list, read", "rat", &odd, "F7 04 0000 0002", 3, 0, "", NOTHING},
+    {"none of the list", "rat", &odd, "01 06 0002 1234", 4, 0, "", NOTHING},
 
     /* broadcasts: writes are done, reads and faults ignored, none is answered */
     {"broadcast 5", "rat", &bench, "00 05 0009 FF00", 1, 0, "", COILS, 0, "00 02"},
@@ -226,6 +247,7 @@ static const struct row rows[] = {
     {"ASCII, 4 digits", "A", &bench, "':01FF\r\n", 5, 0, "", NOTHING},
     {"ASCII, 6 digits", "A", &bench, "':0107F8\r\n", 2, 1, "':01870177\r\n", NOTHING},
     {"ASCII, 7 digits", "A", &bench, "':0107F80\r\n", 5, 0, "", NOTHING},
+    {"ASCII, 15 digits", "A", &bench, "':010300000002FA0\r\n", 5, 0, "", NOTHING},
     {"ASCII, 508 digits", "a", &bench, "01 07 00*251", 2, 1, "01 87 01", NOTHING},
     {"ASCII, 510 digits", "a", &bench, "01 07 00*252", 5, 0, "", NOTHING},
     {"ASCII, 508 digits, LRC wrong", "A", &bench, "3A 3031 30*506 0D 0A", 6, 0, "", NOTHING},
@@ -256,7 +278,19 @@ static const struct row rows[] = {
     {"TCP, length one more", "T", &bench, "0007 0000 0007 01 03 0000 0002", 5, 0, "", NOTHING},
     {"TCP, length 256 more", "T", &bench, "0007 0000 0106 01 03 0000 0002", 5, 0, "", NOTHING},
 
-    /* the order: check, unit, function 128, unknown function, length, value, address */
+    /* the order: setup, room, shape, check, unit, function 128, unknown function, broadcast read, length, value,
+     * address */
+    {"setup before room, the frame right", "rat", &bad_narrow, "01 03 0000 0002", 10, 0, "", NOTHING},
+    {"setup before room and shape", "RAT", &bad_narrow, "", 10, 0, "", NOTHING},
+    {"setup before shape", "RAT", &bad, "", 10, 0, "", NOTHING},
+    {"setup before check", "R", &bad, "01 07 00 00", 10, 0, "", NOTHING},
+    {"room before shape", "RT", &narrow, "", 9, 0, "", NOTHING},
+    {"room before shape on ASCII", "A", &narrow_line, "", 9, 0, "", NOTHING},
+    {"room before check", "R", &narrow, "01 07 00 00", 9, 0, "", NOTHING},
+    {"LRC before unit", "A", &bench, "':020700\r\n", 6, 0, "", NOTHING},
+    {"unit before unknown function", "rat", &bench, "02 2B 0E 01 00 00", 4, 0, "", NOTHING},
+    {"unknown function before length, broadcast", "ra", &bench, "00 07", 3, 1, "", NOTHING},
+    {"broadcast read before length", "ra", &bench, "00 03", 3, 0, "", NOTHING},
     {"check before unit", "R", &bench, "02 03 0000 0002 00 00", 6, 0, "", NOTHING},
     {"check before function 128", "R", &bench, "01 80 00 00", 6, 0, "", NOTHING},
     {"check before unknown function", "R", &bench, "01 2B 0E 01 00 00 00 00", 6, 0, "", NOTHING},
@@ -299,6 +333,9 @@ static const struct {
     {"9 discretes in a byte", 2, {1, "", {"", "00", HOLDS, ""}, {0, 9, 2, 0}, 0}, 10},
     {"1 coil in none", 2, {1, "", {"", "", HOLDS, ""}, {1, 0, 2, 0}, 0}, 10},
     {"2 holdings, a byte short", 2, {1, "", {"", "", "0102 03", ""}, {0, 0, 2, 0}, 0}, 10},
+    {"9 coils in two bytes", 2, {1, "", {"00 00", "", HOLDS, ""}, {9, 0, 2, 0}, 0}, 0},
+    {"9 discretes in two bytes", 2, {1, "", {"", "00 00", HOLDS, ""}, {0, 9, 2, 0}, 0}, 0},
+    {"1 input in two bytes", 2, {1, "", {"", "", HOLDS, "00 00"}, {0, 0, 2, 1}, 0}, 0},
     {"1 input, a byte short", 2, {1, "", {"", "", HOLDS, "00"}, {0, 0, 2, 1}, 0}, 10},
     {"as many coils as can be said", 2, {1, "", {"00", "", HOLDS, ""}, {SIZE_MAX, 0, 2, 0}, 0}, 10},
     {"as many inputs as double to 0", 2, {1, "", {"", "", HOLDS, "00"}, {0, 0, 2, SIZE_MAX / 2 + 1}, 0}, 10},

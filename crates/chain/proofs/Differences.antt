@@ -33,6 +33,7 @@ use Rattle.process.specs.Process.{storedMany, tableFor}
 use Rattle.driver.specs.Driven.{setupOf}
 use Rattle.driver.specs.declared.Setup.{Setup as Numbers}
 use Rattle.demands.specs.Order.{Shaped, Known, Coded, exception-sent, ignored, frame-broken, frame-check, bad-value}
+use Rattle.demands.proofs.PlaceLaws.{value-by-places}
 use Rattle.demands.proofs.Judge.{Returns, refusal-returns}
 use Rattle.chain.specs.Chain.{chainedTo, chained, handed, asFn, onLine, Serial, fullest, Gives, Untested, Misfit, spoken}
 use Rattle.chain.proofs.Shared.{as-code}
@@ -176,7 +177,7 @@ module _ (numbers : Numbers) (list : List ℕ) (l : Lent) (reply frame out : Lis
       refuses : (fn : Fn) → Known s frame m fn → Lengthy fn (m .body) → ¬ Valued fn (m .body)
           → Returns s (tablesOf l) frame (outcome b) 3
           (spoken b (wrap (proto s) (m .tag) (unitOf m ∷ exception (numberOf m) 3)))
-      refuses fn k n w = refusal-returns s (tablesOf l) frame y (bad-value m fn k n w (refused-by b e))
+      refuses fn k n w = refusal-returns s (tablesOf l) frame y (bad-value m fn k n (value-by-places s frame m fn k n .1 w) (refused-by b e))
 
       heard : (fn : Fn) → Known s frame m fn → Heard (proto s) (unitOf m) unit list out b
       unfolding Broadcast Ours

@@ -1,2 +1,3 @@
 mod NumberedLaws
 pub mod Unique
+pub mod Promised

@@ -1,10 +1,19 @@
--- Document 01's cases, one statement over the whole list, by computation.
+-- Document 01's cases and the frames of every function and transport, one statement over each whole list, by computation.
 -- Assumes nothing.
 use mathlib.Core.Path.{_≡_, refl}
 use mathlib.Core.List.{map}
+use Rattle.modbus.specs.Table.{tab?}
+use Rattle.modbus.specs.Storage.{withBit, putCoil, putRegister, store}
 use Rattle.modbus.proofs.Bounds.{computing}
+use Rattle.driver.specs.Driven.{driven}
+use Rattle.demands.specs.Station.{exchanged}
 use Rattle.demands.specs.Cases.{computed, cases}
+use Rattle.demands.specs.Exchanges.{exchanges}
 
 pub all-cases : map computed cases ≡ cases
-unfolding computing
+unfolding computing withBit putCoil putRegister store driven
 all-cases = refl
+
+pub all-exchanges : map exchanged exchanges ≡ exchanges
+unfolding computing withBit putCoil putRegister store driven
+all-exchanges = refl

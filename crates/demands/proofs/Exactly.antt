@@ -30,7 +30,7 @@ module _ (s : Setup) (f : List ℕ) where
   refusal-high (read-ignored m fn h b e i) = omega arith
   refusal-high (wrong-length m fn h n) = omega arith
   refusal-high (bad-value m fn h l n c) = coded-high c
-  refusal-high (bad-address m fn h l v n c) = coded-high c
+  refusal-high (bad-address m a h q n c) = coded-high c
 
   -- no two refusals are due at once
   pub one-refusal : Bytes f → {o c o′ c′ : ℕ} {r r′ : List ℕ} → Refusal s f o c r → Refusal s f o′ c′ r′ → (o ≡ o′) × (c ≡ c′) × (r ≡ r′)

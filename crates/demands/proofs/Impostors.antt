@@ -1,7 +1,7 @@
 -- No impostor of document 01 meets the customer's third demand, and none that takes one of its wrong turns. Most are told from the driver by
 -- one frame, since a driver that meets the demand is the driver.
 -- Assumes nothing.
-use mathlib.Core.Logic.{_≢_}
+use mathlib.Core.Logic.{_⊎_, inl, inr, _≢_}
 use mathlib.Core.Path.{_≡_, ap, sym, _∙_}
 use mathlib.Core.List.{List, [], _∷_}
 use Prim.Native.Nat.{ℕ, _-_, _%_, _≤_, _<_}
@@ -17,10 +17,13 @@ use Rattle.modbus.specs.Drive.{drive}
 use Rattle.modbus.specs.declared.ModbusProto.the-variants.{Rtu}
 use Rattle.modbus.proofs.StepLaws.{needed}
 use Rattle.modbus.proofs.FrameLaws.{complete}
+use Rattle.tables.specs.Lent.{Lent}
+use Rattle.driver.specs.Driven.{Leaves}
 use Rattle.demands.specs.Demand.{Request, Serves}
-use Rattle.demands.specs.Order.{frame-check}
+use Rattle.demands.specs.Order.{no-room, frame-check}
 use Rattle.demands.specs.Cases.{setup, start, caseD, caseF}
 use Rattle.demands.specs.Impostors.{Driver, Meets, asking, beyond, across}
+use Rattle.demands.specs.Promised.{Promised}
 use Rattle.demands.proofs.CellLaws.{outside}
 use Rattle.demands.proofs.Exactly.{one-refusal}
 use Rattle.modbus.proofs.Bounds.{computing}
@@ -100,3 +103,18 @@ module _ (D : Driver) where
       let bad : (tag body : List ℕ) → ¬ Framed (proto s) tag body f = rw e (unframed f n) in
       let none : ¬ ((q : Request) × Serves s f q) = λ (q, w). bad _ _ (w .encoded .2) in
       h (one-refusal s f y (m s t f y v r .refused none) (frame-check v r (rw e (low, high)) bad) .2)
+
+-- ---- calls on bytes, which the demand alone does not tell from the driver: it asks for a valid setup with reply room
+
+module _ (s : Setup) (l : Lent) (frame reply : List ℕ) (g : Leaves) where
+  -- refusing by its number, and storing all the same
+  pub refusing-but-storing : 2 ≤ g .result .outcome → (g .coilBytes ≢ l .coilBytes) ⊎ (g .holdingBytes ≢ l .holdingBytes)
+      → ¬ Promised s l frame reply g
+  refusing-but-storing high (inl n) p = n (p .unchanged high .0)
+  refusing-but-storing high (inr n) p = n (p .unchanged high .1)
+
+  -- serving where there is no room for the reply
+  pub serving-without-room : Valid s → ¬ Roomy s → g .result .outcome < 2 → ¬ Promised s l frame reply g
+  serving-without-room v n low p =
+      let e = ap (λ (x : Leaves). x .result .outcome) (p .refused 9 0 [] (omega arith) .0 (no-room v n)) in
+      omega arith

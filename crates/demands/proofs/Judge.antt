@@ -1,7 +1,7 @@
 -- The driver goes through exactly with what is to be served, and stops exactly with the refusals of document 01's order.
 -- Assumes nothing.
 use mathlib.Core.Logic.{_⊎_, inl, inr, by-cases}
-use mathlib.Core.Path.{_≡_, refl, ap, _∙_, subst}
+use mathlib.Core.Path.{_≡_, refl, ap, sym, _∙_, subst}
 use mathlib.Core.List.{List, [], _∷_}
 use Prim.Native.Nat.{ℕ, _≤_}
 use native.Mathlib.Omega.{arith}
@@ -14,7 +14,7 @@ use Rattle.modbus.specs.Frame.{Framed}
 use Rattle.modbus.specs.Setup.{Setup, proto, Valid, Roomy}
 use Rattle.modbus.specs.Unit.{Broadcast, broadcast?, Ours}
 use Rattle.modbus.specs.Decode.{Message, unitOf, numberOf, Silent, readIgnored, foreign, frameBroken, frameCheck, wrongLength, badFunction, noRoom, badSetup, outcomeOf, unwrap, IsRead, isRead?, asked}
-use Rattle.modbus.specs.Drive.{Fault, quiet, coded, find, fromFunction, fromUnit, judge, Result, silently, replying, settle, drive}
+use Rattle.modbus.specs.Drive.{Inside, Fault, quiet, coded, find, fromFunction, fromUnit, judge, Result, silently, replying, settle, drive}
 use Rattle.modbus.proofs.StepLaws.{pass, fail, follow, halt, bound, needed, bound-stop, needed-stop, pick-yes, pick-no, either}
 use Rattle.modbus.proofs.RequestLaws.{asked-says, says-heard, fn-asked}
 use Rattle.modbus.proofs.FrameLaws.{sound, complete}
@@ -23,6 +23,7 @@ use Rattle.modbus.proofs.DriveLaws.{quietly-go, quietly-stop, went-quietly, sto
 use Rattle.demands.specs.Demand.{Request, Addressed, Serves}
 use Rattle.demands.specs.Order.{Sent, Known, Coded, exception-sent, ignored, Refusal, bad-setup, no-room, frame-broken, frame-check, foreign as foreign-unit, bad-function, no-function, read-ignored, wrong-length, bad-value, bad-address}
 use Rattle.demands.proofs.ShapeLaws.{broken, unchecked, faults}
+use Rattle.demands.proofs.PlaceLaws.{asks-heard, places-ask, value-by-places}
 
 module _ (s : Setup) (f : List ℕ) where
   pub judge-sent : (m : Message) → Sent s f m → judge s f ≡ fromUnit s m
@@ -141,8 +142,12 @@ module _ (s : Setup) (t : Tables) (f : List ℕ) where
       quiet-returns readIgnored
       (judge-sent s f m h ∙ pass _ _ _ (inl b) ∙ pass _ _ _ low ∙ follow _ _ (find-fn _ _ (proto s) fn e) ∙ fail _ _ _ (λ n. n (b, i)))
   refusal-returns y (wrong-length m fn h n) = quiet-returns wrongLength (judge-known s f m fn h ∙ fail _ _ _ n)
-  refusal-returns y (bad-value m fn h l n c) = coded-returns c (judge-known s f m fn h ∙ pass _ _ _ l ∙ fail _ _ _ n)
-  refusal-returns y (bad-address m fn h l v n c) = coded-returns c (judge-known s f m fn h ∙ pass _ _ _ l ∙ pass _ _ _ v ∙ fail _ _ _ n)
+  refusal-returns y (bad-value m fn h l n c) =
+      coded-returns c (judge-known s f m fn h ∙ pass _ _ _ l ∙ fail _ _ _ (value-by-places s f m fn h l .0 n))
+  refusal-returns y (bad-address m a h q n c) =
+      let k = asks-heard s f m a (h .sent) q in
+      coded-returns c
+      (judge-known s f m (fnOf a) h ∙ pass _ _ _ (k .lengthy) ∙ pass _ _ _ (k .valued) ∙ fail _ _ _ (λ i. n (subst (Inside s) (k .asks) i)))
 
   -- the refusal that a fault is settled as
   abbrev Refused : Fault → Type 0
@@ -189,6 +194,10 @@ module _ (s : Setup) (t : Tables) (f : List ℕ) where
       needed-stop _ _ _ e₆ (λ n q. subst Refused q (read-refused m fn sent called n)) λ heeded e₇.
       let known : Known s f m fn = record { sent = sent; reached = reached; called = called; heeded = heeded } in
       needed-stop _ _ _ e₇ (λ n q. subst Refused q (wrong-length m fn known n)) λ lengthy e₈.
-      needed-stop _ _ _ e₈ (λ n q. subst Refused q (coded-refused m 3 λ _ _ c. bad-value m fn known lengthy n c)) λ valued e₉.
-      needed-stop _ _ _ e₉ (λ n q. subst Refused q (coded-refused m 2 λ _ _ c. bad-address m fn known lengthy valued n c)) λ inside e₁₀.
+      needed-stop _ _ _ e₈
+      (λ n q. subst Refused q (coded-refused m 3 λ _ _ c. bad-value m fn known lengthy (value-by-places s f m fn known lengthy .1 n) c)) λ valued e₉.
+      let a = asked fn (m .body) in
+      let known-a : Known s f m (fnOf a) = subst (Known s f m) (sym (fn-asked fn (m .body))) known in
+      needed-stop _ _ _ e₉
+      (λ n q. subst Refused q (coded-refused m 2 λ _ _ c. bad-address m a known-a (places-ask s f m fn known lengthy valued) n c)) λ inside e₁₀.
       let z : _≡_ {A = ℕ} 0 1 = cc in absurd (omega arith)

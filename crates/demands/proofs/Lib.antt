@@ -1,4 +1,5 @@
 pub mod ShapeLaws
+pub mod PlaceLaws
 pub mod CellLaws
 pub mod Judge
 pub mod StoredLaws

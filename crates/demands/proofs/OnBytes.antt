@@ -1,7 +1,6 @@
 -- The customer's third demand holds of a call on bytes, for any numbers and bytes that the driver's contract allows; each refusal is given
--- exactly on its condition; and every byte outside the reply and a served write is as lent. The elements of the frame and of the register
--- tables are bytes, as those of every lent slice are; this is a hypothesis here.
--- Assumes nothing.
+-- exactly on its condition; and every byte outside the reply and a served write is as lent.
+-- Assumes that the elements of the frame are bytes, as those of every lent slice of bytes are; of the tables and the list nothing.
 use mathlib.Core.Logic.{_↔_, by-cases}
 use mathlib.Core.Path.{_≡_, refl, ap, sym, _∙_, subst}
 use mathlib.Core.List.{List, _++_}
@@ -12,16 +11,12 @@ use lib.ListN.{length, take, drop, getD}
 use lib.Seq.{sets, sets-eq, length-sets, take-append-seam, drop-append-seam}
 use Rattle.modbus.specs.Step.{go}
 use Rattle.modbus.specs.Bytes.{Bytes}
-use Rattle.modbus.specs.Table.{Tables, Tab, coils, discretes, holdings, inputs}
+use Rattle.modbus.specs.Table.{Tables, Tab, coils, holdings}
 use Rattle.modbus.specs.Request.{Ask, writing, apply}
-use Rattle.modbus.specs.Storage.{registerAt}
 use Rattle.modbus.specs.Setup.{Setup, Valid, valid?, Roomy, roomy?}
 use Rattle.modbus.specs.Decode.{Message}
 use Rattle.modbus.specs.Drive.{Result, judge, drive}
 use Rattle.modbus.proofs.StepLaws.{needed}
-use Rattle.modbus.proofs.BytesLaws.{word-at}
-use Rattle.modbus.proofs.StorageLaws.{coil-bit}
-use Rattle.modbus.proofs.AnswerLaws.{Proper}
 use Rattle.modbus.proofs.DriveLaws.{stop-after, go-low, go-after, by-judge}
 use Rattle.tables.specs.Lent.{Lent, tableOf, cellsOf, tablesOf}
 use Rattle.driver.specs.Driven.{setupOf, bytesBy, resultOf, Leaves, leaving, driven, called}
@@ -29,6 +24,7 @@ use Rattle.driver.specs.declared.Setup.{Setup as Numbers}
 use Rattle.demands.specs.Demand.{Demand3}
 use Rattle.demands.specs.Order.{Refusal, bad-setup, no-room}
 use Rattle.demands.specs.OnBytes.{lentAfter, showed, refusing, Unwritten, Kept}
+use Rattle.demands.specs.Promised.{Promised}
 use Rattle.demands.proofs.CellLaws.{run-of, apply-stored, same-cells}
 use Rattle.demands.proofs.Judge.{requested, judge-serves, refusal-returns}
 use Rattle.demands.proofs.Exactly.{refusal-high, exactly}
@@ -40,19 +36,11 @@ judge-valid : (s : Setup) (f : List ℕ) {w : Message × Ask} → judge s f ≡ 
 unfolding judge
 judge-valid s f e = needed _ _ _ e λ valid _. valid
 
--- the cells of bytes hold what cells can hold
-proper : (l : Lent) → Bytes (l .holdingBytes) → Bytes (l .inputBytes) → Proper (tablesOf l)
-unfolding registerAt
-proper l h k coils i = coil-bit (l .coilBytes) i
-proper l h k discretes i = coil-bit (l .discreteBytes) i
-proper l h k holdings i = word-at (l .holdingBytes) (2 * i) h
-proper l h k inputs i = word-at (l .inputBytes) (2 * i) k
-
 -- a reply fits the buffer of any setup, since none is given without room for it
-fits : (s : Setup) (t : Tables) (f : List ℕ) → Bytes f → Proper t → length (drive s t f .reply) ≤ s .room
-fits s t f y p =
+fits : (s : Setup) (t : Tables) (f : List ℕ) → Bytes f → length (drive s t f .reply) ≤ s .room
+fits s t f y =
     by-cases (roomy? s)
-    (λ r. omega (arith, reply-room s t f y p))
+    (λ r. omega (arith, reply-room s t f y))
     (λ n. by-cases (valid? s)
     (λ v. let e = refusal-returns s t f y (no-room v n) .2 in rw e (omega arith))
     (λ w. let e = refusal-returns s t f y (bad-setup w) .2 in rw e (omega arith)))
@@ -121,39 +109,38 @@ module _ (n : Numbers) (list : List ℕ) (l : Lent) (frame reply : List ℕ) (y 
   unfolding driven drive
   call-room = length-sets reply 0 (due .reply)
 
-  module _ (h : Bytes (l .holdingBytes)) (k : Bytes (l .inputBytes)) where
-    due-fits : length (due .reply) ≤ length reply
-    due-fits = fits s (tablesOf l) frame y (proper l h k)
+  due-fits : length (due .reply) ≤ length reply
+  due-fits = fits s (tablesOf l) frame y
 
-    call-laid : call
-        ≡ leaving (resultOf due) (due .reply ++ drop (length (due .reply)) reply)
-        (bytesBy l (judge s frame) coils) (bytesBy l (judge s frame) holdings)
-    unfolding driven drive
-    call-laid =
-        ap
-        (λ b. leaving (resultOf due) b (bytesBy l (judge s frame) coils) (bytesBy l (judge s frame) holdings))
-        (front reply (due .reply) due-fits)
+  call-laid : call
+      ≡ leaving (resultOf due) (due .reply ++ drop (length (due .reply)) reply)
+      (bytesBy l (judge s frame) coils) (bytesBy l (judge s frame) holdings)
+  unfolding driven drive
+  call-laid =
+      ap
+      (λ b. leaving (resultOf due) b (bytesBy l (judge s frame) coils) (bytesBy l (judge s frame) holdings))
+      (front reply (due .reply) due-fits)
 
-    call-reply : take (call .result .length) (call .replyBytes) ≡ due .reply
-    call-reply = rw call-laid (take-append-seam (due .reply) _)
+  call-reply : take (call .result .length) (call .replyBytes) ≡ due .reply
+  call-reply = rw call-laid (take-append-seam (due .reply) _)
 
-    call-rest : drop (call .result .length) (call .replyBytes) ≡ drop (call .result .length) reply
-    call-rest = rw call-laid (drop-append-seam (due .reply) _)
+  call-rest : drop (call .result .length) (call .replyBytes) ≡ drop (call .result .length) reply
+  call-rest = rw call-laid (drop-append-seam (due .reply) _)
 
-    call-fits : call .result .length ≤ length reply
-    call-fits = rw call-laid due-fits
+  call-fits : call .result .length ≤ length reply
+  call-fits = rw call-laid due-fits
 
-    call-due : showed l call ≡ due
-    unfolding driven drive
-    call-due = λ i. record { outcome = due .outcome; exceptionCode = due .exceptionCode; reply = call-reply i; after = call-after i }
+  call-due : showed l call ≡ due
+  unfolding driven drive
+  call-due = λ i. record { outcome = due .outcome; exceptionCode = due .exceptionCode; reply = call-reply i; after = call-after i }
 
-    call-refusing : 2 ≤ due .outcome → call ≡ refusing l reply (due .outcome) (due .exceptionCode) (due .reply)
-    unfolding drive
-    call-refusing high =
-        call-laid
-        ∙ by-judge s frame
-        (λ x e. rw e)
-        (λ m a e. absurd (let low : due .outcome < 2 = rw e (go-low s (tablesOf l) m a) in omega arith))
+  call-refusing : 2 ≤ due .outcome → call ≡ refusing l reply (due .outcome) (due .exceptionCode) (due .reply)
+  unfolding drive
+  call-refusing high =
+      call-laid
+      ∙ by-judge s frame
+      (λ x e. rw e)
+      (λ m a e. absurd (let low : due .outcome < 2 = rw e (go-low s (tablesOf l) m a) in omega arith))
 
   -- ---- any call that the contract allows
 
@@ -166,53 +153,57 @@ module _ (n : Numbers) (list : List ℕ) (l : Lent) (frame reply : List ℕ) (y 
         let z : due .after ≡ apply a (tablesOf l) = rw j (go-after s (tablesOf l) m a) in
         rw e (ap (λ (t : Tables). t tab i) (call-after ∙ z))
 
-    module _ (h : Bytes (l .holdingBytes)) (k : Bytes (l .inputBytes)) where
-      -- what it showed is what the definitions say, whatever the setup
-      pub showed-drive : showed l g ≡ drive s (tablesOf l) frame
-      showed-drive = rw e (call-due h k)
+    -- what it showed is what the definitions say, whatever the setup
+    pub showed-drive : showed l g ≡ drive s (tablesOf l) frame
+    showed-drive = rw e call-due
 
-      pub demand-on-bytes : Valid s → Roomy s → Demand3 s (tablesOf l) frame (showed l g)
-      demand-on-bytes v r = rw showed-drive (demand-3 s (tablesOf l) frame y v r)
+    pub demand-on-bytes : Valid s → Roomy s → Demand3 s (tablesOf l) frame (showed l g)
+    demand-on-bytes v r = rw showed-drive (demand-3 s (tablesOf l) frame y v r)
 
-      -- an outcome from 2 on is a refusal that is due, whatever the setup
-      pub refusal-due : 2 ≤ g .result .outcome
-          → Refusal s frame (g .result .outcome) (g .result .code) (take (g .result .length) (g .replyBytes))
-      refusal-due high =
-          let z : due ≡ showed l g = sym showed-drive in
-          exactly s (tablesOf l) frame y _ _ _ high .1
-          (ap (λ x. x .outcome) z, ap (λ x. x .exceptionCode) z, ap (λ x. x .reply) z)
+    -- an outcome from 2 on is a refusal that is due, whatever the setup
+    pub refusal-due : 2 ≤ g .result .outcome
+        → Refusal s frame (g .result .outcome) (g .result .code) (take (g .result .length) (g .replyBytes))
+    refusal-due high =
+        let z : due ≡ showed l g = sym showed-drive in
+        exactly s (tablesOf l) frame y _ _ _ high .1
+        (ap (λ x. x .outcome) z, ap (λ x. x .exceptionCode) z, ap (λ x. x .reply) z)
 
-      -- and every refusal that is due is given, with not a byte beside its reply changed
-      pub refusals-on-bytes : (o c : ℕ) (r : List ℕ) → 2 ≤ o → Refusal s frame o c r ↔ (g ≡ refusing l reply o c r)
-      refusals-on-bytes o c r high = (
-        λ q.
-            let (p, w, x) = refusal-returns s (tablesOf l) frame y q in
-            e ∙ rw (p, w, x) at (call-refusing h k (rw p high)),
-        λ q.
-            let z : due ≡ showed l (refusing l reply o c r) = sym showed-drive ∙ ap (showed l) q in
-            exactly s (tablesOf l) frame y o c r high .1
-            (ap (λ x. x .outcome) z, ap (λ x. x .exceptionCode) z, ap (λ x. x .reply) z ∙ take-append-seam r _),
-      )
+    -- and every refusal that is due is given, with not a byte beside its reply changed
+    pub refusals-on-bytes : (o c : ℕ) (r : List ℕ) → 2 ≤ o → Refusal s frame o c r ↔ (g ≡ refusing l reply o c r)
+    refusals-on-bytes o c r high = (
+      λ q.
+          let (p, w, x) = refusal-returns s (tablesOf l) frame y q in
+          e ∙ rw (p, w, x) at (call-refusing (rw p high)),
+      λ q.
+          let z : due ≡ showed l (refusing l reply o c r) = sym showed-drive ∙ ap (showed l) q in
+          exactly s (tablesOf l) frame y o c r high .1
+          (ap (λ x. x .outcome) z, ap (λ x. x .exceptionCode) z, ap (λ x. x .reply) z ∙ take-append-seam r _),
+    )
 
-      -- so only outcomes 0 and 1 change a byte of a table
-      pub untouched : 2 ≤ g .result .outcome → (g .coilBytes ≡ l .coilBytes) × (g .holdingBytes ≡ l .holdingBytes)
-      untouched high =
-          let z = refusals-on-bytes _ _ _ high .0 (refusal-due high) in
-          (ap (λ x. x .coilBytes) z, ap (λ x. x .holdingBytes) z)
+    -- so only outcomes 0 and 1 change a byte of a table
+    pub untouched : 2 ≤ g .result .outcome → (g .coilBytes ≡ l .coilBytes) × (g .holdingBytes ≡ l .holdingBytes)
+    untouched high =
+        let z = refusals-on-bytes _ _ _ high .0 (refusal-due high) in
+        (ap (λ x. x .coilBytes) z, ap (λ x. x .holdingBytes) z)
 
-      pub kept-on-bytes : Kept s l frame reply g
-      unfolding driven
-      kept-on-bytes =
-          rw e
-          (record {
-            coilLength = call-lengths .0;
-            holdingLength = call-lengths .1;
-            replyLength = call-room;
-            replyFits = call-fits h k;
-            replyRest = call-rest h k;
-            coilsOutside = outside-cells coils;
-            holdingsOutside = λ b free. outside-byte holdings b (λ i q. subst (λ (j : ℕ). Unwritten s frame holdings j) q free);
-            spareBits = λ i high. outside-cells coils i (spare-unwritten coils i high);
-            spareCoilBytes = λ b high. outside-byte coils b (λ i q. spare-unwritten coils i (omega arith));
-            spareHoldingBytes = λ b high. outside-byte holdings b (λ i q. spare-unwritten holdings i (omega arith));
-          })
+    pub kept-on-bytes : Kept s l frame reply g
+    unfolding driven
+    kept-on-bytes =
+        rw e
+        (record {
+          coilLength = call-lengths .0;
+          holdingLength = call-lengths .1;
+          replyLength = call-room;
+          replyFits = call-fits;
+          replyRest = call-rest;
+          coilsOutside = outside-cells coils;
+          holdingsOutside = λ b free. outside-byte holdings b (λ i q. subst (λ (j : ℕ). Unwritten s frame holdings j) q free);
+          spareBits = λ i high. outside-cells coils i (spare-unwritten coils i high);
+          spareCoilBytes = λ b high. outside-byte coils b (λ i q. spare-unwritten coils i (omega arith));
+          spareHoldingBytes = λ b high. outside-byte holdings b (λ i q. spare-unwritten holdings i (omega arith));
+        })
+
+    -- all of it
+    pub promised : Promised s l frame reply g
+    promised =
+        record { third = demand-on-bytes; refused = refusals-on-bytes; due = refusal-due; unchanged = untouched; kept = kept-on-bytes }

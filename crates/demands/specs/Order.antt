@@ -1,17 +1,17 @@
 -- Document 01's order of refusals, as conditions of the frame and the setup: each outcome from 2 to 10 with its code and its reply, exactly when
--- it is given. A condition speaks of the published shapes and encodings, never of how the driver finds out.
+-- it is given. A condition speaks of the published shapes, lengths and encodings, never of how the driver finds out.
 -- Assumes nothing.
 use mathlib.Core.Logic.{_⊎_, _≢_}
 use mathlib.Core.Path.{_≡_}
 use mathlib.Core.List.{List, [], _∷_}
 use Prim.Native.Nat.{ℕ, _+_, _≤_}
-use lib.ListN.{length, getD}
+use lib.ListN.{length, drop, getD}
 use Rattle.modbus.specs.Bytes.{Bytes, wordAt}
-use Rattle.modbus.specs.Request.{Fn, code, exception}
+use Rattle.modbus.specs.Request.{Fn, code, Ask, fnOf, Permitted, Encodes, exception}
 use Rattle.modbus.specs.Frame.{line, wrap, Framed}
 use Rattle.modbus.specs.Setup.{Setup, proto, Valid, Roomy}
 use Rattle.modbus.specs.Unit.{Broadcast, Ours}
-use Rattle.modbus.specs.Decode.{Message, unitOf, numberOf, IsRead, Lengthy, Valued, asked}
+use Rattle.modbus.specs.Decode.{Message, unitOf, numberOf, IsRead, Lengthy}
 use Rattle.modbus.specs.Drive.{Inside}
 use Rattle.modbus.specs.declared.ModbusProto.{ModbusProto}
 use Rattle.modbus.specs.declared.ModbusProto.the-variants.{Rtu, Ascii, TcpUdp}
@@ -35,6 +35,11 @@ pub record Known (s : Setup) (f : List ℕ) (m : Message) (fn : Fn) : Type 0 whe
   pub called : numberOf m ≡ code fn
   pub heeded : ¬ (Broadcast s (unitOf m) × IsRead fn)
 
+-- behind the unit stands the published encoding of this request, which is permitted
+pub record Asks (m : Message) (a : Ask) : Type 0 where
+  pub permitted : Permitted a
+  pub encoded : Encodes a (drop 1 (m .body))
+
 -- a fault with a code: an exception from our own unit, and BroadcastIgnored without a reply on a broadcast number
 pub data Coded (s : Setup) (m : Message) : ℕ → ℕ → List ℕ → Type 0 where
   exception-sent : (c : ℕ) → ¬ Broadcast s (unitOf m) → Coded s m 2 c (wrap (proto s) (m .tag) (unitOf m ∷ exception (numberOf m) c))
@@ -52,7 +57,9 @@ pub data Refusal (s : Setup) (f : List ℕ) : ℕ → ℕ → List ℕ → Type 
       → ((fn : Fn) → numberOf m ≢ code fn) → {o : ℕ} {r : List ℕ} → Coded s m o 1 r → Refusal s f o 1 r
   read-ignored : (m : Message) (fn : Fn) → Sent s f m → Broadcast s (unitOf m) → numberOf m ≡ code fn → IsRead fn → Refusal s f 3 0 []
   wrong-length : (m : Message) (fn : Fn) → Known s f m fn → ¬ Lengthy fn (m .body) → Refusal s f 7 0 []
-  bad-value : (m : Message) (fn : Fn) → Known s f m fn → Lengthy fn (m .body) → ¬ Valued fn (m .body)
+  -- value: a body of that function and its length, and no permitted request has it for its encoding
+  bad-value : (m : Message) (fn : Fn) → Known s f m fn → Lengthy fn (m .body) → ((a : Ask) → ¬ Asks m a)
       → {o : ℕ} {r : List ℕ} → Coded s m o 3 r → Refusal s f o 3 r
-  bad-address : (m : Message) (fn : Fn) → Known s f m fn → Lengthy fn (m .body) → Valued fn (m .body) → ¬ Inside s (asked fn (m .body))
+  -- address: a permitted request, whose cells are not all inside the table
+  bad-address : (m : Message) (a : Ask) → Known s f m (fnOf a) → Asks m a → ¬ Inside s a
       → {o : ℕ} {r : List ℕ} → Coded s m o 2 r → Refusal s f o 2 r

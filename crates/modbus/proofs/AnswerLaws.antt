@@ -1,4 +1,4 @@
--- The answer to a request that came as bytes is bytes, 2 to 252 of them, if the tables hold proper values.
+-- The answer to a permitted request has 2 to 252 bytes; they are bytes, if the request came as bytes and the tables hold proper values.
 -- Assumes nothing.
 use mathlib.Core.Path.{_≡_, refl}
 use mathlib.Core.List.{List, [], _∷_}
@@ -40,27 +40,38 @@ code-byte discretes = omega arith
 code-byte holdings = omega arith
 code-byte inputs = omega arith
 
--- bytes, and as many as fit behind a unit number
+-- as many as fit behind a unit number
 pub record Fitting (l : List ℕ) : Type 0 where
-  pub bytes : Bytes l
   pub low : 2 ≤ length l
   pub high : length l ≤ 252
 
-read-fits : (t : Tab) (vs : List ℕ) → 1 ≤ length vs → length vs ≤ mostRead (kindOf t) → All (Fits (kindOf t)) vs
+read-fits : (t : Tab) (vs : List ℕ) → 1 ≤ length vs → length vs ≤ mostRead (kindOf t)
     → Fitting (code (reads t) ∷ octets (kindOf t) (length vs) ∷ shown (kindOf t) vs)
-read-fits t vs l h p =
+read-fits t vs l h =
+    let n = octets-most (kindOf t) (length vs) l h in
+    let k = length-shown (kindOf t) vs in
+    record { low = omega arith; high = omega arith }
+
+pub answer-fits : (a : Ask) (t : Tables) → Permitted a → Fitting (answer a (found a (seen (apply a t))))
+answer-fits (read tab s n) t p =
+    let k = length-part (t tab) s n in
+    read-fits tab (part (t tab) s n) (omega (arith, p)) (rw k (p .1))
+answer-fits (write k a v) t p = record { low = omega arith; high = omega arith }
+answer-fits (writes k s ws) t p = record { low = omega arith; high = omega arith }
+
+read-bytes : (t : Tab) (vs : List ℕ) → 1 ≤ length vs → length vs ≤ mostRead (kindOf t) → All (Fits (kindOf t)) vs
+    → Bytes (code (reads t) ∷ octets (kindOf t) (length vs) ∷ shown (kindOf t) vs)
+read-bytes t vs l h p =
     let n = octets-most (kindOf t) (length vs) l h in
     let c = code-byte t in
-    let k = length-shown (kindOf t) vs in
-    record { bytes = (omega arith, (omega arith, bytes-shown (kindOf t) vs p)); low = omega arith; high = omega arith }
+    (omega arith, (omega arith, bytes-shown (kindOf t) vs p))
 
-pub answer-fits : (a : Ask) (t : Tables) (l : List ℕ) → Proper t → Permitted a → Encodes a l → Bytes l
-    → Fitting (answer a (found a (seen (apply a t))))
-answer-fits (read tab s n) t l proper p e y =
+pub answer-bytes : (a : Ask) (t : Tables) (l : List ℕ) → Proper t → Permitted a → Encodes a l → Bytes l
+    → Bytes (answer a (found a (seen (apply a t))))
+answer-bytes (read tab s n) t l proper p e y =
     let k = length-part (t tab) s n in
-    read-fits tab (part (t tab) s n) (omega (arith, p)) (rw k (p .1)) (part-all (t tab) (Fits (kindOf tab)) s n (proper tab))
-answer-fits (write k a v) t l proper p (pad, q, e) y =
-    record { bytes = rw e at y; low = omega arith; high = omega arith }
-answer-fits (writes k s ws) t l proper p (pad, q, e) y =
+    read-bytes tab (part (t tab) s n) (omega (arith, p)) (rw k (p .1)) (part-all (t tab) (Fits (kindOf tab)) s n (proper tab))
+answer-bytes (write k a v) t l proper p (pad, q, e) y = rw e at y
+answer-bytes (writes k s ws) t l proper p (pad, q, e) y =
     let b = rw e at y in
-    record { bytes = (b .0, (b .1 .0, (b .1 .1 .0, (b .1 .1 .1 .0, (b .1 .1 .1 .1 .0, tt))))); low = omega arith; high = omega arith }
+    (b .0, (b .1 .0, (b .1 .1 .0, (b .1 .1 .1 .0, (b .1 .1 .1 .1 .0, tt)))))
