@@ -1,4 +1,5 @@
 pub mod ReadingLaws
 pub mod PlainLaws
 pub mod RoundTrip
+pub mod Boundaries
 pub mod Unique

@@ -37,8 +37,8 @@ use records::parts::stands;
 use records::parts::wide;
 ghost use Prim.Native.Nat.{_≤_, _<_};
 
-// Room for a table of 65,536 bits or words, and for a short one behind it.
-pub(crate) const BITS: usize = 8400;
+// Room for a table of 65,536 bits or words, and behind it for one of 2,048 bits or 128 words.
+pub(crate) const BITS: usize = 8500;
 
 pub(crate) const WORDS: usize = 131400;
 

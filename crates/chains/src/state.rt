@@ -19,7 +19,7 @@ const AFTER: usize = 30;
 fn proto(number: u8) -> ModbusProto {
     match proto_of(number) {
         ProtoAnswer::Value(p) => p,
-        ProtoAnswer::Refused(_) => ModbusProto::TcpUdp,
+        ProtoAnswer::BadSetup => ModbusProto::TcpUdp,
     }
 }
 

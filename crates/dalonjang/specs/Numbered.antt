@@ -3,10 +3,9 @@
 use mathlib.Core.Bool.{Bool, true, false}
 use mathlib.Core.List.{List}
 use Prim.Native.Nat.{ℕ}
-use Rattle.modbus.specs.Step.{Step, _>>_, need, _≤?_}
-use Rattle.modbus.specs.Paper.{protoOf}
+use Rattle.modbus.specs.Step.{Step, choose, _≤?_}
+use Rattle.modbus.specs.Paper.{protoOf, told, badTransport}
 use Rattle.modbus.specs.declared.ErrorKind.{ErrorKind}
-use Rattle.modbus.specs.declared.ErrorKind.the-variants.{BadSetup}
 use Rattle.lengths.specs.Guess.{requestBody, responseBody, guess}
 
 -- the body of a request, or of a response
@@ -14,5 +13,5 @@ abbrev pub sideBody : Bool → List ℕ → Step ErrorKind ℕ
 sideBody true = requestBody
 sideBody false = responseBody
 
-unfoldable pub guessed : (List ℕ → Step ErrorKind ℕ) → ℕ → List ℕ → Step ErrorKind ℕ
-guessed body n f = need (n ≤? 2) BadSetup >> guess body (protoOf n) f
+unfoldable pub guessed : (List ℕ → Step ErrorKind ℕ) → ℕ → List ℕ → ℕ × ℕ
+guessed body n f = choose (n ≤? 2) (told (guess body (protoOf n) f)) badTransport

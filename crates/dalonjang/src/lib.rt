@@ -2,10 +2,8 @@
 use driver::Driven;
 use driver::Setup;
 use modbus::Answer;
-use modbus::ByteAnswer;
 use modbus::ProtoAnswer;
 ghost use mathlib.Core.Path.{_≡_};
-ghost use Rattle.modbus.specs.Paper.{told};
 ghost use Rattle.ascii.specs.Reading.{parsedInto, generatedInto};
 ghost use Rattle.lengths.specs.Guess.{requestBody, responseBody};
 ghost use Rattle.driver.specs.Driven.{lentIn, leaving, called};
@@ -59,11 +57,11 @@ pub extern "C" fn dalonjang_generate_ascii_frame(data: &[u8], result: &mut [u8])
 
 // A request's length, or a response's, by the transport's number.
 fn guess_frame_len(request: bool, frame: &[u8], proto: u8) -> Answer
-    ensures { λ r. ⌜ (r .kind, r .value) ≡ told (guessed (sideBody request) proto (now (frame .entry))) ⌝ }
+    ensures { λ r. ⌜ (r .kind, r .value) ≡ guessed (sideBody request) proto (now (frame .entry)) ⌝ }
 {
     let transport = modbus::proto_of(proto);
     match transport {
-        ProtoAnswer::Refused(k) => modbus::byte_answer(ByteAnswer::Refused(k)),
+        ProtoAnswer::BadSetup => Answer { value: 0, kind: 10 },
         ProtoAnswer::Value(p) => {
             if request {
                 return modbus::byte_answer(lengths::guess_request_frame_len(frame, p));
@@ -75,14 +73,14 @@ fn guess_frame_len(request: bool, frame: &[u8], proto: u8) -> Answer
 
 #[no_mangle]
 pub extern "C" fn dalonjang_guess_request_frame_len(frame: &[u8], proto: u8) -> Answer
-    ensures { λ r. ⌜ (r .kind, r .value) ≡ told (guessed requestBody proto (now (frame .entry))) ⌝ }
+    ensures { λ r. ⌜ (r .kind, r .value) ≡ guessed requestBody proto (now (frame .entry)) ⌝ }
 {
     guess_frame_len(true, frame, proto)
 }
 
 #[no_mangle]
 pub extern "C" fn dalonjang_guess_response_frame_len(buf: &[u8], proto: u8) -> Answer
-    ensures { λ r. ⌜ (r .kind, r .value) ≡ told (guessed responseBody proto (now (buf .entry))) ⌝ }
+    ensures { λ r. ⌜ (r .kind, r .value) ≡ guessed responseBody proto (now (buf .entry)) ⌝ }
 {
     guess_frame_len(false, buf, proto)
 }

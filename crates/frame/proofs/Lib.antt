@@ -1,3 +1,4 @@
 pub mod StateLaws
 pub mod ParseLaws
+pub mod Boundaries
 pub mod Unique

@@ -25,7 +25,7 @@ use Rattle.response.specs.Bounded.{extended}
 use Rattle.response.proofs.BoundedLaws.{extended-fits}
 use Rattle.incoming.specs.Envelope.{begins, checkFollows, Countable, countable?}
 use Rattle.incoming.proofs.EnvelopeLaws.{tcp-begun}
-use Rattle.frame.specs.State.{portedOf, functionOf, started, grown, respondingTo, withFunc, withError, answering, counting, toProcess, After, well, refused, ended}
+use Rattle.frame.specs.State.{portedOf, functionPaper, functionOf, started, grown, respondingTo, withFunc, withError, answering, counting, toProcess, After, well, refused, ended}
 use Rattle.frame.specs.Parse.{orLeave, answered, firstWord, secondWord, byteCount, readAccepted, readParsed, oneParsed, manyAccepted, manyParsed, requested, unsupported, functionByte, functionNamed, header, copiesHeader, Headed, forUs, unitByte, addressed, frameParsed}
 use Rattle.frame.specs.declared.ModbusFunction.{ModbusFunction}
 use Rattle.frame.specs.declared.FunctionAnswer.the-variants.{Value, Unsupported}
@@ -144,12 +144,12 @@ module _ (broadcast : Bool) (s : ModbusFrame) (buf out : List ℕ) where
   named-short h = ap ended (fail _ _ _ (λ (k : s .«frame_start» + 2 ≤ length buf). omega arith))
 
   module _ (h : s .«frame_start» + 2 ≤ length buf) where
-    pub named-unsupported : functionOf (functionByte s buf) ≡ Unsupported
+    pub named-unsupported : functionOf (functionByte s buf) ≡ functionPaper Unsupported
         → functionNamed broadcast s buf out ≡ well (unsupported broadcast (respondingTo (functionByte s buf) s)) out
     unfolding functionNamed
     named-unsupported e = ap ended (pass _ _ _ h ∙ halt _ _ (find-none _ _ _ (function-missing _ e) _))
 
-    pub named-supported : (f : ModbusFunction) → functionOf (functionByte s buf) ≡ Value f
+    pub named-supported : (f : ModbusFunction) → functionOf (functionByte s buf) ≡ functionPaper (Value f)
         → (t : ModbusFrame) → t ≡ withFunc f (respondingTo (functionByte s buf) s)
         → functionNamed broadcast s buf out ≡ ended (requested (portedOf f) broadcast s t buf out)
     unfolding functionNamed

@@ -1,7 +1,7 @@
 -- The functions by their numbers, and what a call leaves, as the code says it.
 -- Assumes nothing.
 use mathlib.Core.Logic.{_≢_}
-use mathlib.Core.Path.{_≡_, refl, ap}
+use mathlib.Core.Path.{_≡_, refl, sym, ap, _∙_}
 use mathlib.Core.List.{List}
 use Prim.Native.Nat.{ℕ}
 use native.Mathlib.Omega.{arith}
@@ -9,9 +9,10 @@ use Rattle.modbus.specs.Step.{Step, stop, go}
 use Rattle.modbus.specs.Table.{coils, discretes, holdings, inputs, bit, word}
 use Rattle.modbus.specs.Ported.{Ported, reads, one, many, codeOf, allPorted}
 use Rattle.modbus.specs.Drive.{find}
-use Rattle.modbus.proofs.FindLaws.{find-ported, found-fn, find-none}
-use Rattle.frame.specs.State.{funcOf, portedOf, foundAs, functionOf, leftPaper}
+use Rattle.modbus.proofs.FindLaws.{find-ported, found-fn, found-fault, find-none}
+use Rattle.frame.specs.State.{funcOf, portedOf, functionPaper, functionTold, functionOf, leftPaper}
 use Rattle.frame.specs.declared.ModbusFunction.{ModbusFunction}
+use Rattle.frame.specs.declared.ModbusFunction.the-variants.{GetCoils, GetDiscretes, GetHoldings, GetInputs, SetCoil, SetHolding, SetCoilsBulk, SetHoldingsBulk}
 use Rattle.frame.specs.declared.FunctionAnswer.the-variants.{Value, Unsupported}
 use Rattle.frame.specs.declared.Left.{Left}
 
@@ -27,29 +28,48 @@ fn-back (one word) = refl
 fn-back (many bit) = refl
 fn-back (many word) = refl
 
-pub function-known : (n : ℕ) (fn : Ported) → n ≡ codeOf fn → functionOf n ≡ Value (funcOf fn)
-unfolding functionOf
-function-known n fn e = ap foundAs (find-ported tt n fn e)
+pub func-back : (f : ModbusFunction) → funcOf (portedOf f) ≡ f
+func-back GetCoils = refl
+func-back GetDiscretes = refl
+func-back GetHoldings = refl
+func-back GetInputs = refl
+func-back SetCoil = refl
+func-back SetHolding = refl
+func-back SetCoilsBulk = refl
+func-back SetHoldingsBulk = refl
 
-pub function-none : (n : ℕ) → ((fn : Ported) → n ≢ codeOf fn) → functionOf n ≡ Unsupported
+-- no two functions share a number
+pub code-same : (f g : Ported) → codeOf f ≡ codeOf g → f ≡ g
+code-same f g e =
+    let p = find-ported {F = ℕ} 1 (codeOf f) f refl in
+    let q = find-ported {F = ℕ} 1 (codeOf f) g e in
+    cc
+
+pub function-known : (n : ℕ) (fn : Ported) → n ≡ codeOf fn → functionOf n ≡ functionPaper (Value (funcOf fn))
 unfolding functionOf
-function-none n h = ap foundAs (find-none codeOf tt n h allPorted)
+function-known n fn e =
+    ap functionTold (find-ported 1 n fn e) ∙ ap (λ (g : Ported). functionTold (go g)) (sym (fn-back fn))
+
+pub function-none : (n : ℕ) → ((fn : Ported) → n ≢ codeOf fn) → functionOf n ≡ functionPaper Unsupported
+unfolding functionOf
+function-none n h = ap functionTold (find-none codeOf 1 n h allPorted)
 
 -- a function that was found has the number, and a number of none is no function's
-pub function-found : {C : Type 0} (n : ℕ) (f : ModbusFunction) → functionOf n ≡ Value f
+pub function-found : {C : Type 0} (n : ℕ) (f : ModbusFunction) → functionOf n ≡ functionPaper (Value f)
     → ((fn : Ported) → n ≡ codeOf fn → funcOf fn ≡ f → C) → C
 unfolding functionOf
-function-found {C} n f e k = by (find codeOf tt n allPorted) refl e
+function-found {C} n f e k = by (find codeOf 1 n allPorted) refl e
   where
-    by : (m : Step (Unit {0}) Ported) → find codeOf tt n allPorted ≡ m → foundAs m ≡ Value f → C
-    by (go fn) p q = let z : funcOf fn ≡ f = cc in k fn (found-fn codeOf _ _ _ fn p) z
-    by (stop u) p q = let z : _≡_ {A = ℕ} 0 1 = cc in absurd (omega arith)
+    by : (m : Step ℕ Ported) → find codeOf 1 n allPorted ≡ m → functionTold m ≡ functionPaper (Value f) → C
+    by (go fn) p q =
+        let z = code-same fn (portedOf f) (ap (λ (a : ℕ × ℕ). a .1) q) in
+        k fn (found-fn codeOf _ _ _ fn p) (ap funcOf z ∙ func-back f)
+    by (stop c) p q =
+        let z = found-fault codeOf _ _ _ p in
+        absurd (omega (arith, ap (λ (a : ℕ × ℕ). a .0) q))
 
-pub function-missing : (n : ℕ) → functionOf n ≡ Unsupported → (fn : Ported) → n ≢ codeOf fn
-function-missing n e fn p =
-    let q = function-known n fn p in
-    let z : _≡_ {A = ℕ} 0 1 = cc in
-    omega arith
+pub function-missing : (n : ℕ) → functionOf n ≡ functionPaper Unsupported → (fn : Ported) → n ≢ codeOf fn
+function-missing n e fn p = omega (arith, ap (λ (a : ℕ × ℕ). a .0) (sym e ∙ function-known n fn p))
 
 -- ---- what a call leaves
 

@@ -4,16 +4,20 @@ use mathlib.Core.Path.{_≡_, refl, sym, ap, ap₂, _∙_}
 use mathlib.Core.Bool.{cond}
 use mathlib.Core.List.{List}
 use Prim.Native.Nat.{ℕ}
+use native.Mathlib.Omega.{arith}
 use lib.Dec.{eqb}
 use lib.ListN.{length, getD}
 use Rattle.modbus.specs.declared.DoneAnswer.{DoneAnswer}
 use Rattle.modbus.proofs.Unique.{Unique, done-number, by-back}
-use Rattle.frame.specs.State.{After, leftPaper}
+use Rattle.frame.specs.State.{funcOf, portedOf, functionPaper, After, leftPaper}
+use Rattle.frame.specs.declared.FunctionAnswer.{FunctionAnswer}
+use Rattle.frame.specs.declared.FunctionAnswer.the-variants.{Value, Unsupported}
 use Rattle.frame.specs.declared.ModbusFrame.{ModbusFrame}
 use Rattle.frame.specs.declared.Left.{Left}
 use Rattle.frame.specs.Changes.{changesPaper}
 use Rattle.frame.specs.declared.changes.Changes.{Changes}
 use Rattle.frame.specs.declared.changes.Changes.the-variants.{Coils, Holdings, Nothing}
+use Rattle.frame.proofs.StateLaws.{func-back, code-same}
 use Rattle.frame.proofs.ModbusFrame.changes.Kinds as changes-kinds
 use Rattle.frame.proofs.ModbusFrame.changes.Reads as changes-reads
 use Rattle.frame.proofs.ModbusFrame.with_error.Kinds as with-error-kinds
@@ -53,10 +57,20 @@ changes-back Nothing = refl
 changes-back (Coils reg count) = refl
 changes-back (Holdings reg count) = refl
 
+-- ---- no two answers share a function's numbers
+
+pub function-paper : (x y : FunctionAnswer) → functionPaper x ≡ functionPaper y → x ≡ y
+function-paper (Value f) (Value g) e =
+    let z = code-same (portedOf f) (portedOf g) (ap (λ (a : ℕ × ℕ). a .1) e) in
+    ap Value (sym (func-back f) ∙ ap funcOf z ∙ func-back g)
+function-paper (Value f) Unsupported e = absurd (omega (arith, ap (λ (a : ℕ × ℕ). a .0) e))
+function-paper Unsupported (Value g) e = absurd (omega (arith, ap (λ (a : ℕ × ℕ). a .0) e))
+function-paper Unsupported Unsupported e = refl
+
 -- ---- the public functions
 
 pub function-of : Unique 0 function-of-kinds.ps function-of-kinds.r function-of-reads.Post
-function-of κs a x y u v p q = (p ∙ sym q, refl)
+function-of κs a x y u v p q = (function-paper x y (p ∙ sym q), refl)
 
 pub new : Unique 0 new-kinds.ps new-kinds.r new-reads.Post
 new κs a x y u v p q = (p ∙ sym q, refl)

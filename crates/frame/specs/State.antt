@@ -42,13 +42,18 @@ portedOf SetHolding = one word
 portedOf SetCoilsBulk = many bit
 portedOf SetHoldingsBulk = many word
 
--- the function of a number, if it is served
-abbrev pub foundAs : Step (Unit {0}) Ported → FunctionAnswer
-foundAs (go fn) = Value (funcOf fn)
-foundAs (stop u) = Unsupported
+-- an answer in numbers: 0 and the function's, or the code of an unsupported function
+abbrev pub functionPaper : FunctionAnswer → ℕ × ℕ
+functionPaper (Value f) = (0, codeOf (portedOf f))
+functionPaper Unsupported = (1, 0)
 
-unfoldable pub functionOf : ℕ → FunctionAnswer
-functionOf n = foundAs (find codeOf tt n allPorted)
+abbrev pub functionTold : Step ℕ Ported → ℕ × ℕ
+functionTold (go fn) = (0, codeOf fn)
+functionTold (stop c) = (c, 0)
+
+-- the function of a number, if it is served
+unfoldable pub functionOf : ℕ → ℕ × ℕ
+functionOf n = functionTold (find codeOf 1 n allPorted)
 
 -- ---- a state by its fields, in the order of the record
 

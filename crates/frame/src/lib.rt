@@ -7,7 +7,7 @@ use modbus::DoneAnswer;
 use modbus::ErrorKind;
 use modbus::ModbusProto;
 ghost use mathlib.Core.Path.{_≡_};
-ghost use Rattle.frame.specs.State.{fresh, withFunc, withError, functionOf, doneOf, refusedOf};
+ghost use Rattle.frame.specs.State.{fresh, withFunc, withError, functionPaper, functionOf, doneOf, refusedOf};
 
 pub enum ModbusFunction {
     GetCoils,
@@ -55,7 +55,7 @@ pub enum FunctionAnswer {
 }
 
 pub fn function_of(number: u8) -> FunctionAnswer
-    ensures { λ r. ⌜ r ≡ functionOf number ⌝ }
+    ensures { λ r. ⌜ functionPaper r ≡ functionOf number ⌝ }
 {
     match number {
         1 => FunctionAnswer::Value(ModbusFunction::GetCoils),

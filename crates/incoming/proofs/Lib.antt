@@ -1,2 +1,3 @@
 pub mod EnvelopeLaws
+pub mod Boundaries
 pub mod Unique

@@ -6,7 +6,7 @@ use mathlib.Core.List.{List, [], _∷_, _++_}
 use mathlib.Core.Logic.{Dec·and, Dec·not}
 use Prim.Native.Nat.{ℕ}
 use native.Mathlib.Decide.{decLe, ℕ-discrete}
-use lib.ListN.{replicate}
+use lib.ListN.{replicate, take}
 use Rattle.modbus.specs.Step.{_>>=_, _>>_, need, choose, _or?_}
 use Rattle.modbus.specs.Paper.{told}
 use Rattle.modbus.specs.Hex.{digit, undigit, text}
@@ -38,7 +38,8 @@ abbrev pub headOf : ℕ → List ℕ
 headOf n = 0 ∷ 7 ∷ 0 ∷ 0 ∷ 0 ∷ n ∷ []
 
 -- a row for each number, one side of it and the other: the largest byte counts and header length, which make a frame of 255 bytes, and
--- one more; an unknown function, in a request on both serial lines, in a reply with two bytes known and with three, and from 128 on
+-- one more; an unknown function, in a request on both serial lines, in a reply with two bytes known and with three, and from 128 on; how many
+-- bytes tell a length, and one less; the functions on both sides of those that are known; a header whose protocol is not 0
 pub boundaries :
     _≡_ {A = List ((ℕ × ℕ) × (ℕ × ℕ))}
     ((asked Rtu (manyOf 15 246), asked Rtu (manyOf 15 247))
@@ -55,8 +56,21 @@ pub boundaries :
     ∷ (replied Rtu (1 ∷ 127 ∷ []), replied Rtu (1 ∷ 127 ∷ 0 ∷ []))
     ∷ (replied Rtu (1 ∷ 127 ∷ 0 ∷ []), replied Rtu (1 ∷ 128 ∷ []))
     ∷ (replied Ascii (1 ∷ 127 ∷ 0 ∷ []), replied Ascii (1 ∷ 128 ∷ []))
+    ∷ (asked Rtu (1 ∷ []), asked Rtu (1 ∷ 3 ∷ []))
+    ∷ (asked Rtu (take 6 (manyOf 15 2)), asked Rtu (manyOf 15 2))
+    ∷ (replied Rtu (1 ∷ 3 ∷ []), replied Rtu (1 ∷ 3 ∷ 4 ∷ []))
+    ∷ (replied Rtu (1 ∷ 4 ∷ 2 ∷ []), replied Rtu (1 ∷ 5 ∷ 2 ∷ []))
+    ∷ (replied Rtu (1 ∷ 6 ∷ 2 ∷ []), replied Rtu (1 ∷ 7 ∷ 2 ∷ []))
+    ∷ (replied Rtu (1 ∷ 14 ∷ 2 ∷ []), replied Rtu (1 ∷ 15 ∷ 2 ∷ []))
+    ∷ (replied Rtu (1 ∷ 16 ∷ 2 ∷ []), replied Rtu (1 ∷ 17 ∷ 2 ∷ []))
+    ∷ (asked Rtu (manyOf 14 2), asked Rtu (manyOf 17 2))
+    ∷ (asked TcpUdp (take 5 (headOf 6)), asked TcpUdp (headOf 6))
+    ∷ (replied TcpUdp (take 5 (headOf 3)), replied TcpUdp (headOf 3))
+    ∷ (asked TcpUdp (headOf 0), asked TcpUdp (0 ∷ 7 ∷ 0 ∷ 1 ∷ 0 ∷ 6 ∷ []))
     ∷ [])
     (replicate 10 ((0, 255), (23, 0))
-    ++ ((0, 8), (0, 17)) ∷ ((21, 0), (23, 0)) ∷ ((23, 0), (0, 5)) ∷ ((23, 0), (0, 11)) ∷ [])
+    ++ ((0, 8), (0, 17)) ∷ ((21, 0), (23, 0)) ∷ ((23, 0), (0, 5)) ∷ ((23, 0), (0, 11))
+    ∷ ((21, 0), (0, 8)) ∷ ((21, 0), (0, 11)) ∷ ((21, 0), (0, 9)) ∷ ((0, 7), (0, 8)) ∷ ((0, 8), (23, 0)) ∷ ((23, 0), (0, 8)) ∷ ((0, 8), (23, 0))
+    ∷ ((0, 8), (0, 8)) ∷ ((21, 0), (0, 12)) ∷ ((21, 0), (0, 9)) ∷ ((0, 6), (23, 0)) ∷ [])
 unfolding Dec·and Dec·not decLe ℕ-discrete _>>=_ _>>_ need choose _or?_ digit undigit text onward orRefused second pair placed decode textParsed requestBody responseBody inByte serial guess
 boundaries = refl

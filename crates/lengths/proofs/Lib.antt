@@ -1,4 +1,5 @@
 pub mod GuessLaws
 pub mod FrameLength
 pub mod Boundaries
+pub mod Impostors
 pub mod Unique

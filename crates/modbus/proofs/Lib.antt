@@ -16,3 +16,4 @@ pub mod FindLaws
 pub mod DriveLaws
 pub mod Cases
 pub mod Bounds
+pub mod Boundaries

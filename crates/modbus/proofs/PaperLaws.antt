@@ -5,16 +5,16 @@ use mathlib.Core.List.{List}
 use Prim.Native.Nat.{ℕ, _≤_}
 use native.Mathlib.Omega.{arith}
 use Rattle.modbus.specs.Step.{Step, stop, go, _≤?_}
-use Rattle.modbus.specs.Paper.{number, transport, protoOf, told, toldWith, bytePaper, sizePaper, protoAsked}
+use Rattle.modbus.specs.Paper.{number, transport, protoOf, told, toldWith, bytePaper, sizePaper, badTransport, protoAsked}
 use Rattle.modbus.specs.declared.ErrorKind.{ErrorKind}
-use Rattle.modbus.specs.declared.ErrorKind.the-variants.{OOB, OOBContext, FrameBroken, FrameCRCError, IllegalDataValue, ReadCallOnWriteFrame, WriteCallOnReadFrame, BadSetup}
+use Rattle.modbus.specs.declared.ErrorKind.the-variants.{OOB, OOBContext, FrameBroken, FrameCRCError, IllegalDataValue, ReadCallOnWriteFrame, WriteCallOnReadFrame}
 use Rattle.modbus.specs.declared.ModbusProto.{ModbusProto}
 use Rattle.modbus.specs.declared.ModbusProto.the-variants.{Rtu, Ascii, TcpUdp}
 use Rattle.modbus.specs.declared.ByteAnswer.{ByteAnswer}
 use Rattle.modbus.specs.declared.ByteAnswer.the-variants as byte
 use Rattle.modbus.specs.declared.SizeAnswer.{SizeAnswer}
 use Rattle.modbus.specs.declared.SizeAnswer.the-variants.{Value, Refused}
-use Rattle.modbus.proofs.StepLaws.{pass, fail}
+use Rattle.modbus.proofs.StepLaws.{pick-yes, pick-no}
 use Rattle.modbus.proofs.Unique.{size-paper}
 
 abbrev answerOf : Step ErrorKind ℕ → SizeAnswer
@@ -75,7 +75,6 @@ number-some FrameCRCError e = omega arith
 number-some IllegalDataValue e = omega arith
 number-some ReadCallOnWriteFrame e = omega arith
 number-some WriteCallOnReadFrame e = omega arith
-number-some BadSetup e = omega arith
 
 proto-back : (p : ModbusProto) → protoOf (transport p) ≡ p
 proto-back Rtu = refl
@@ -88,13 +87,9 @@ proto-found n p e = by (n ≤? 2)
   where
     by : Dec (n ≤ 2) → (n ≤ 2) × (p ≡ protoOf n)
     by (yes h) =
-        let q : transport p ≡ n = ap (λ (a : ℕ × ℕ). a .1) (e ∙ ap told (pass _ _ _ h)) in
+        let q : transport p ≡ n = ap (λ (a : ℕ × ℕ). a .1) (e ∙ pick-yes _ _ _ h) in
         (h, sym (proto-back p) ∙ ap protoOf q)
-    by (no h) = absurd (omega (arith, ap (λ (a : ℕ × ℕ). a .0) (e ∙ ap told (fail _ _ _ h))))
+    by (no h) = absurd (omega (arith, ap (λ (a : ℕ × ℕ). a .0) (e ∙ pick-no _ _ _ h)))
 
-pub proto-refused : (n : ℕ) (k : ErrorKind) → _≡_ {A = ℕ × ℕ} (number k, 0) (protoAsked n) → (¬ (n ≤ 2)) × (number k ≡ number BadSetup)
-proto-refused n k e = by (n ≤? 2)
-  where
-    by : Dec (n ≤ 2) → (¬ (n ≤ 2)) × (number k ≡ number BadSetup)
-    by (yes h) = absurd (number-some k (ap (λ (a : ℕ × ℕ). a .0) (e ∙ ap told (pass _ _ _ h))))
-    by (no h) = (h, ap (λ (a : ℕ × ℕ). a .0) (e ∙ ap told (fail _ _ _ h)))
+pub proto-refused : (n : ℕ) → badTransport ≡ protoAsked n → ¬ (n ≤ 2)
+proto-refused n e h = omega (arith, ap (λ (a : ℕ × ℕ). a .0) (e ∙ pick-yes _ _ _ h))

@@ -11,7 +11,7 @@ use borrow.Fn.Kinds.{PK, RK, Out, Dens, resT, endedOf}
 use denote.Triple.Clauses.{Lasts, atExit}
 use Rattle.modbus.specs.Paper.{number, bytePaper, sizePaper, wordPaper, bitPaper, donePaper, protoPaper}
 use Rattle.modbus.specs.declared.ErrorKind.{ErrorKind}
-use Rattle.modbus.specs.declared.ErrorKind.the-variants.{OOB, OOBContext, FrameBroken, FrameCRCError, IllegalDataValue, ReadCallOnWriteFrame, WriteCallOnReadFrame, BadSetup}
+use Rattle.modbus.specs.declared.ErrorKind.the-variants.{OOB, OOBContext, FrameBroken, FrameCRCError, IllegalDataValue, ReadCallOnWriteFrame, WriteCallOnReadFrame}
 use Rattle.modbus.specs.declared.ModbusProto.{ModbusProto}
 use Rattle.modbus.specs.declared.ModbusProto.the-variants.{Rtu, Ascii, TcpUdp}
 use Rattle.modbus.specs.declared.Answer.{Answer}
@@ -52,8 +52,8 @@ Unique n ps r Post =
 
 abbrev kindBack : ℕ → ErrorKind
 kindBack n =
-    cond (eqb n 10) BadSetup (cond (eqb n 21) OOB (cond (eqb n 22) OOBContext (cond (eqb n 23) FrameBroken
-    (cond (eqb n 24) FrameCRCError (cond (eqb n 25) IllegalDataValue (cond (eqb n 26) ReadCallOnWriteFrame WriteCallOnReadFrame))))))
+    cond (eqb n 21) OOB (cond (eqb n 22) OOBContext (cond (eqb n 23) FrameBroken (cond (eqb n 24) FrameCRCError
+    (cond (eqb n 25) IllegalDataValue (cond (eqb n 26) ReadCallOnWriteFrame WriteCallOnReadFrame)))))
 
 abbrev protoBack : ℕ → ModbusProto
 protoBack n = cond (eqb n 0) Rtu (cond (eqb n 1) Ascii TcpUdp)
@@ -66,7 +66,6 @@ kind-back FrameCRCError = refl
 kind-back IllegalDataValue = refl
 kind-back ReadCallOnWriteFrame = refl
 kind-back WriteCallOnReadFrame = refl
-kind-back BadSetup = refl
 
 -- no kind has the number 0, which marks a value
 kind-some : (k : ErrorKind) {A : Type 0} (a b : A) → cond (eqb (number k) 0) a b ≡ b
@@ -77,7 +76,6 @@ kind-some FrameCRCError a b = refl
 kind-some IllegalDataValue a b = refl
 kind-some ReadCallOnWriteFrame a b = refl
 kind-some WriteCallOnReadFrame a b = refl
-kind-some BadSetup a b = refl
 
 -- an answer of any type: a value or a refusal, by its number and values
 abbrev pub back : {A B : Type 0} → (B → A) → (ErrorKind → A) → ℕ × B → A
@@ -95,11 +93,15 @@ size-back : (x : SizeAnswer) → back size.Value size.Refused (sizePaper x) ≡ 
 size-back (size.Value v) = refl
 size-back (size.Refused k) = refused-back size.Value size.Refused 0 k
 
-proto-back : (x : ProtoAnswer) → back (λ n. proto.Value (protoBack n)) proto.Refused (protoPaper x) ≡ x
+-- its one refusal is told by the number
+abbrev protoAnswerBack : ℕ × ℕ → ProtoAnswer
+protoAnswerBack p = cond (eqb (p .0) 0) (proto.Value (protoBack (p .1))) proto.BadSetup
+
+proto-back : (x : ProtoAnswer) → protoAnswerBack (protoPaper x) ≡ x
 proto-back (proto.Value Rtu) = refl
 proto-back (proto.Value Ascii) = refl
 proto-back (proto.Value TcpUdp) = refl
-proto-back (proto.Refused k) = refused-back (λ n. proto.Value (protoBack n)) proto.Refused 0 k
+proto-back proto.BadSetup = refl
 
 word-back : (x : WordAnswer) → back word.Value word.Refused (wordPaper x) ≡ x
 word-back (word.Value v) = refl
@@ -143,7 +145,7 @@ pub done-number : (x y : DoneAnswer) → donePaper x .0 ≡ donePaper y .0 → x
 done-number x y e = done-paper x y (done-whole x ∙ ap (λ (n : ℕ). (n, 0)) e ∙ sym (done-whole y))
 
 proto-paper : (x y : ProtoAnswer) → protoPaper x ≡ protoPaper y → x ≡ y
-proto-paper = by-back protoPaper (back (λ n. proto.Value (protoBack n)) proto.Refused) proto-back
+proto-paper = by-back protoPaper protoAnswerBack proto-back
 
 -- ---- the public functions
 

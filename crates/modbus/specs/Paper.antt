@@ -4,9 +4,9 @@
 use mathlib.Core.Bool.{Bool, true, false}
 use mathlib.Core.List.{List}
 use Prim.Native.Nat.{ℕ, zero, suc}
-use Rattle.modbus.specs.Step.{Step, stop, go, _>>_, need, _≤?_}
+use Rattle.modbus.specs.Step.{Step, stop, go, choose, _≤?_}
 use Rattle.modbus.specs.declared.ErrorKind.{ErrorKind}
-use Rattle.modbus.specs.declared.ErrorKind.the-variants.{OOB, OOBContext, FrameBroken, FrameCRCError, IllegalDataValue, ReadCallOnWriteFrame, WriteCallOnReadFrame, BadSetup}
+use Rattle.modbus.specs.declared.ErrorKind.the-variants.{OOB, OOBContext, FrameBroken, FrameCRCError, IllegalDataValue, ReadCallOnWriteFrame, WriteCallOnReadFrame}
 use Rattle.modbus.specs.declared.ModbusProto.{ModbusProto}
 use Rattle.modbus.specs.declared.ModbusProto.the-variants.{Rtu, Ascii, TcpUdp}
 use Rattle.modbus.specs.declared.ByteAnswer.{ByteAnswer}
@@ -23,7 +23,6 @@ use Rattle.modbus.specs.declared.ProtoAnswer.{ProtoAnswer}
 use Rattle.modbus.specs.declared.ProtoAnswer.the-variants as proto
 
 abbrev pub number : ErrorKind → ℕ
-number BadSetup = 10
 number OOB = 21
 number OOBContext = 22
 number FrameBroken = 23
@@ -74,13 +73,17 @@ abbrev pub donePaper : DoneAnswer → ℕ × ℕ
 donePaper done.Done = (0, 0)
 donePaper (done.Refused k) = (number k, 0)
 
+-- BadSetup, which no ported call answers: its number is the driver's outcome
+abbrev pub badTransport : ℕ × ℕ
+badTransport = (10, 0)
+
 abbrev pub protoPaper : ProtoAnswer → ℕ × ℕ
 protoPaper (proto.Value p) = (0, transport p)
-protoPaper (proto.Refused k) = (number k, 0)
+protoPaper proto.BadSetup = badTransport
 
 -- a setup's transport: 0 RTU, 1 ASCII, 2 TCP, and BadSetup above
 abbrev pub protoAsked : ℕ → ℕ × ℕ
-protoAsked n = told (need (n ≤? 2) BadSetup >> go n)
+protoAsked n = choose (n ≤? 2) (0, n) badTransport
 
 -- an answer, and what a lent buffer then holds: a refusal leaves it as given
 abbrev pub toldWith : List ℕ → Step ErrorKind (ℕ × List ℕ) → (ℕ × ℕ) × List ℕ

@@ -5,7 +5,7 @@ ghost use Rattle.modbus.specs.Step.{stop};
 ghost use Rattle.modbus.specs.declared.BitAnswer.the-variants as bit;
 ghost use Rattle.modbus.specs.Paper.{number, told, protoPaper, protoAsked, bytePaper, sizePaper, wordPaper, bitPaper, donePaper};
 
-// Why a ported call is refused: the crate's kinds, and document 01's BadSetup for a transport that does not exist.
+// Why a ported call is refused: the crate's kinds, as far as they are kept.
 pub enum ErrorKind {
     OOB,
     OOBContext,
@@ -14,7 +14,6 @@ pub enum ErrorKind {
     IllegalDataValue,
     ReadCallOnWriteFrame,
     WriteCallOnReadFrame,
-    BadSetup,
 }
 
 pub enum ModbusProto {
@@ -51,9 +50,10 @@ pub enum DoneAnswer {
     Refused(ErrorKind),
 }
 
+// A transport, or document 01's BadSetup: that is none of the kinds.
 pub enum ProtoAnswer {
     Value(ModbusProto),
-    Refused(ErrorKind),
+    BadSetup,
 }
 
 // The transport of a number, as the firmware gives it: 0 RTU, 1 ASCII, 2 TCP.
@@ -64,7 +64,7 @@ pub fn proto_of(number: u8) -> ProtoAnswer
         0 => ProtoAnswer::Value(ModbusProto::Rtu),
         1 => ProtoAnswer::Value(ModbusProto::Ascii),
         2 => ProtoAnswer::Value(ModbusProto::TcpUdp),
-        _ => ProtoAnswer::Refused(ErrorKind::BadSetup),
+        _ => ProtoAnswer::BadSetup,
     }
 }
 
@@ -86,7 +86,6 @@ pub fn kind_number(kind: ErrorKind) -> u8
         ErrorKind::IllegalDataValue => 25,
         ErrorKind::ReadCallOnWriteFrame => 26,
         ErrorKind::WriteCallOnReadFrame => 27,
-        ErrorKind::BadSetup => 10,
     }
 }
 

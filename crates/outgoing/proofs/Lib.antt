@@ -1,3 +1,4 @@
 pub mod GrowLaws
 pub mod WayLaws
+pub mod Boundaries
 pub mod Unique

@@ -1,2 +1,4 @@
 pub mod ProcessLaws
+pub mod Boundaries
+pub mod Impostors
 pub mod Unique

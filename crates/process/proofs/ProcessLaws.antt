@@ -61,7 +61,7 @@ data-outside s t k n e p q = rw (q, p) (sym (pick-yes _ _ _ (ap number e)))
 
 -- where the other kinds stand among their variants
 abbrev others : List ℕ
-others = 0 ∷ 2 ∷ 3 ∷ 4 ∷ 5 ∷ 6 ∷ 7 ∷ []
+others = 0 ∷ 2 ∷ 3 ∷ 4 ∷ 5 ∷ 6 ∷ []
 
 pub data-refused : (s : ModbusFrame) (k : ErrorKind) → OneOf others (tagOf the-type k)
     → refusedOf k s ≡ dataLeft s (size.Refused k)

@@ -1,7 +1,6 @@
 // Replays a fixed list of the crate's answers, read from standard input: one record a line, in hexadecimal digits, as the head of the list
 // says. No Rust is needed for it.
 use modbus::Answer;
-use modbus::ByteAnswer;
 use modbus::ProtoAnswer;
 use records::Tally;
 
@@ -18,7 +17,7 @@ fn guess(call: u8, input: &[u8], proto: u8) -> Answer {
             }
             modbus::byte_answer(lengths::guess_response_frame_len(input, p))
         }
-        ProtoAnswer::Refused(k) => modbus::byte_answer(ByteAnswer::Refused(k)),
+        ProtoAnswer::BadSetup => Answer { value: 0, kind: 10 },
     }
 }
 

@@ -1,7 +1,7 @@
 -- What a body comes to, as the driver keeps it: document 01's order from the function to the address, and the cells that a request names.
 -- Assumes nothing.
 use mathlib.Core.Bool.{Bool, true, false}
-use mathlib.Core.List.{List}
+use mathlib.Core.List.{List, [], _∷_}
 use Prim.Native.Nat.{ℕ, zero, suc}
 use lib.ListN.{length, getD}
 use Rattle.modbus.specs.Step.{Step, stop, go, _>>=_, _>>_, need, _≤?_, _and?_, not?}
@@ -72,3 +72,17 @@ keptBy (go a) = kept a
 
 unfoldable pub judged : Setup → Bool → List ℕ → Verdict
 judged s broadcast b = keptBy (weighed s broadcast b)
+
+-- ---- a verdict in document 01's numbers
+
+abbrev pub writeNumbers : Write → List ℕ
+writeNumbers (Bits c) = 0 ∷ c .address ∷ c .count ∷ c .at ∷ []
+writeNumbers (Words c) = 1 ∷ c .address ∷ c .count ∷ c .at ∷ []
+
+-- first the outcome, 0 for a request that is served: then its function, or 0 for bits and 1 for words, its first cell, how many, and where a write's
+-- data stand; else the length of the body that is sent, which for an exception is 3, and the code
+abbrev pub verdictPaper : Verdict → List ℕ
+verdictPaper (Read q) = 0 ∷ q .function ∷ q .address ∷ q .count ∷ []
+verdictPaper (Written w) = 0 ∷ writeNumbers w
+verdictPaper (Refused c) = 2 ∷ 3 ∷ c ∷ []
+verdictPaper (Quiet o c) = o ∷ 0 ∷ c ∷ []

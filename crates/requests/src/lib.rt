@@ -10,7 +10,7 @@ ghost use Rattle.modbus.specs.Table.{Kind, Tab, coils, discretes, holdings, inp
 ghost use Rattle.modbus.specs.Request.{reads, one, many, code, mostRead, mostWritten, octets};
 ghost use Rattle.modbus.specs.Setup.{Setup};
 ghost use Rattle.modbus.specs.Decode.{lengthy?, valued?};
-ghost use Rattle.requests.specs.Judged.{refusedBy, kindBy, writeOf, judged};
+ghost use Rattle.requests.specs.Judged.{refusedBy, kindBy, writeOf, judged, verdictPaper};
 ghost use Rattle.requests.specs.declared.Verdict.the-variants as verdict;
 
 // A read: its function tells the table.
@@ -41,7 +41,7 @@ pub enum Verdict {
 }
 
 // A fault with a code.
-pub fn refused(broadcast: bool, code: u8) -> Verdict
+fn refused(broadcast: bool, code: u8) -> Verdict
     ensures { λ r. ⌜ r ≡ refusedBy broadcast code ⌝ }
 {
     if broadcast {
@@ -217,7 +217,7 @@ pub fn judge(
     input_cells: usize,
 ) -> Verdict
     ensures { λ r. ⌜ ((s : Setup) → (s .cells coils ≡ «coil_cells») × (s .cells discretes ≡ «discrete_cells») × (s .cells holdings ≡ «holding_cells») × (s .cells inputs ≡ «input_cells»)
-        → r ≡ judged s broadcast (now (body .entry))) ⌝ }
+        → verdictPaper r ≡ verdictPaper (judged s broadcast (now (body .entry)))) ⌝ }
 {
     if body.len() < 2 {
         return refused(broadcast, 1);

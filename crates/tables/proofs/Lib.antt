@@ -3,3 +3,4 @@ pub mod EightLaws
 pub mod RunsLaws
 pub mod CoilsUnique
 pub mod RegistersUnique
+pub mod Boundaries

@@ -1,9 +1,9 @@
-//! One call of the crate on any state, over any vector of its own trait.
-use super::context::Tables;
+//! One call of the crate on any state, over any vector and any tables of its own traits.
 use super::record::*;
 use crate::answer::proto;
 use crate::record::{ASCII, RTU, TCP};
 use rmodbus::consts::{ModbusErrorCode, ModbusFunction};
+use rmodbus::server::context::ModbusContext;
 use rmodbus::server::{Changes, ModbusFrame, Read, Write};
 use rmodbus::{ErrorKind, ModbusProto, VectorTrait};
 
@@ -38,10 +38,10 @@ pub fn error_codes() -> Vec<u8> {
 }
 
 /// The answer, with its values, and the state afterwards. The response holds the bytes before the call.
-pub fn ask<V: VectorTrait<u8>>(
+pub fn ask<V: VectorTrait<u8>, C: ModbusContext>(
     call: &Call,
     response: &mut V,
-    tables: &mut Tables,
+    tables: &mut C,
 ) -> (Result<Vec<usize>, ErrorKind>, State) {
     let before = response.as_slice().to_vec();
     let mut frame = ModbusFrame::new(call.state.unit_id, &call.buf, proto(call.state.proto), response)
@@ -88,10 +88,10 @@ fn state_of<V: VectorTrait<u8>>(frame: &ModbusFrame<'_, V>) -> State {
     }
 }
 
-fn answer<V: VectorTrait<u8>>(
+fn answer<V: VectorTrait<u8>, C: ModbusContext>(
     frame: &mut ModbusFrame<'_, V>,
     call: &Call,
-    tables: &mut Tables,
+    tables: &mut C,
 ) -> Result<Vec<usize>, ErrorKind> {
     let kind = KINDS.iter().find(|k| k.1 == call.reported).map(|k| k.0);
     let reported = kind.map_or(Ok(()), Err);

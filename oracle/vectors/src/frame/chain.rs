@@ -17,13 +17,18 @@ struct Chain<'a, 'b> {
 
 pub fn chain(chance: &mut Chance, put: Put<'_>) {
     let (unit, proto) = (chance.pick(&[1, 1, 1, 17, 255]), chance.below(3) as u8);
-    let (list, tables) = (list(chance, unit), tables(chance));
-    let body = body(chance, unit, &list, &tables);
+    let (list, wide) = (list(chance, unit), wide(chance));
+    let tables = tables(chance, wide);
+    let body = body(chance, unit, &list, &tables, wide);
     let mut buf = framed(chance, proto, if proto == TCP { 6 } else { 0 }, &body);
     if chance.percent(8) {
         damage(chance, &mut buf);
     }
-    let room = if chance.percent(20) { chance.below(20) } else { 30 + chance.below(8) };
+    let room = match wide {
+        _ if chance.percent(20) => chance.below(20),
+        Some(_) => 260 + chance.below(8),
+        None => 30 + chance.below(8),
+    };
     let state = fresh(unit, proto);
     let call = Call { which: NEW, reported: 0, state, buf, list, room, given: Vec::new(), tables };
     let mut chain = Chain { call, put, chance };
@@ -46,7 +51,7 @@ impl Chain<'_, '_> {
         let same = left.response.iter().enumerate().rev().take_while(|(i, byte)| **byte == plain(*i)).count();
         self.call.given = left.response[..left.response.len() - same].to_vec();
         for (table, bytes) in self.call.tables.iter_mut().zip(left.tables) {
-            if table.len <= 100 {
+            if table.len <= 300 {
                 table.front = bytes;
             }
         }

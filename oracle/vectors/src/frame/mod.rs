@@ -5,10 +5,12 @@ mod chain;
 mod context;
 mod edges;
 mod foreseen;
+mod mark;
 mod random;
 pub mod record;
 mod shape;
 mod spoil;
+mod stored;
 
 use crate::chance::Chance;
 use crate::record::TCP;
@@ -25,17 +27,22 @@ const KINDS: [&[u8]; 11] = [
     &[0, 21, 22, 23, 24, 26, 27], &[0, 21, 22, 23, 24, 26, 27], &[0, 21], &[0], &[0],
 ];
 
-const LIST_RECORD: usize = 200; // the longest record of modules 5 to 7 in the list
+const LIST_RECORD: usize = 200; // the longest record of modules 5 to 7 in the list, but for those of a number
+
+/// The fewest bytes of data that the largest of so many calls must have read and written.
+const MANY: (usize, usize) = (250, 240);
 
 /// Exactly n records as lines: the edges, then random calls and chains.
 pub fn stream(n: usize, seed: u64) {
     let mut out = Out::new();
-    let mut seen = Seen::default();
+    let (mut seen, mut stored) = (Seen::default(), Stored::default());
     calls(n, seed, &mut |call, left, site| {
         seen.note(call, left, site);
+        stored.note(call, left, site);
         out.line(&call.record(left));
     });
     out.flush();
+    stored.finish();
     seen.finish();
 }
 
@@ -62,7 +69,7 @@ pub fn spoilt(n: usize, seed: u64) {
     }
 }
 
-/// The fixed list: of every call each way out, and each place where the crate panics.
+/// The fixed list: of every call each way out, each place where the crate panics, and each number in mark.rs.
 pub fn sample(seed: u64) {
     let mut out = Out::new();
     let head = format!(
@@ -71,11 +78,15 @@ pub fn sample(seed: u64) {
          # Where the crate panics the answer is document 01's.\n{FORMAT}"
     );
     out.bytes(head.as_bytes());
-    let mut ways = BTreeSet::new();
+    let (mut ways, mut marked) = (BTreeSet::new(), BTreeSet::new());
     let mut seen = Seen::default();
     calls(200_000, seed, &mut |call, left, site| {
         let record = call.record(left);
-        if record.len() <= LIST_RECORD && ways.insert(way(call, left, site)) {
+        let mut chosen = record.len() <= LIST_RECORD && ways.insert(way(call, left, site));
+        for mark in mark::marks(call, left) {
+            chosen |= marked.insert(mark);
+        }
+        if chosen {
             seen.note(call, left, site);
             out.line(&record);
         }
@@ -113,6 +124,48 @@ fn calls(n: usize, seed: u64, put: &mut dyn FnMut(&Call, &Left, Option<Site>)) {
         } else {
             ask(random::random(&mut chance));
         }
+    }
+}
+
+/// What came of the calls of module 6 over the crate's own storage, and how many bytes of data the largest had.
+#[derive(Default)]
+struct Stored {
+    compared: usize,
+    ways: BTreeMap<&'static str, usize>,
+    read: usize,
+    written: usize,
+}
+
+impl Stored {
+    fn note(&mut self, call: &Call, left: &Left, site: Option<Site>) {
+        let (compared, way) = stored::compare(call, left, site).unwrap_or_else(|why| fail(&format!("{why}: {call:?}")));
+        self.compared += usize::from(compared);
+        if let Some(way) = way {
+            *self.ways.entry(way).or_default() += 1;
+        }
+        if call.which == record::PROCESS_READ && left.kind == 0 {
+            self.read = self.read.max(left.state.response_len.saturating_sub(call.state.response_len));
+        }
+        if call.which == record::PROCESS_WRITE {
+            self.written = self.written.max(call.changed(left));
+        }
+    }
+
+    fn finish(self) {
+        for way in stored::WAYS {
+            let Some(count) = self.ways.get(way) else { fail(&format!("over its own storage never: {way}")) };
+            eprintln!("{count:8} over its own storage: {way}");
+        }
+        if self.read < MANY.0 || self.written < MANY.1 {
+            fail(&format!("the largest read had {} bytes, the largest write {}", self.read, self.written));
+        }
+        eprintln!(
+            "{} calls of module 6 over the crate's own storage, equal but in {} known ways; a response grew by up to {} bytes, a table changed in {}",
+            self.compared,
+            self.ways.len(),
+            self.read,
+            self.written
+        );
     }
 }
 

@@ -29,8 +29,9 @@ pub fn random(chance: &mut Chance) -> Call {
     let which = asked(chance);
     let (unit_id, proto) = (if chance.percent(85) { 1 } else { chance.byte() }, chance.below(3) as u8);
     let list = list(chance, unit_id);
-    let tables = if matches!(which, PROCESS_READ | PROCESS_WRITE) { tables(chance) } else { Default::default() };
-    let body = body(chance, unit_id, &list, &tables);
+    let wide = wide(chance);
+    let tables = if matches!(which, PROCESS_READ | PROCESS_WRITE) { tables(chance, wide) } else { Default::default() };
+    let body = body(chance, unit_id, &list, &tables, wide);
     let start = start(chance, proto);
     let mut buf = framed(chance, proto, start, &body);
     if chance.percent(12) {
@@ -41,6 +42,12 @@ pub fn random(chance: &mut Chance) -> Call {
         buf.resize(len, chance.byte());
     }
     let mut state = state(chance, which, &body, &tables);
+    if wide.is_some() && chance.percent(90) {
+        // as the frame says it
+        state.func = body[1];
+        state.reg = u16::from_be_bytes([body[2], body[3]]);
+        state.count = u16::from_be_bytes([body[4], body[5]]);
+    }
     state.unit_id = unit_id;
     state.proto = proto;
     state.frame_start = if chance.percent(80) { start } else { anywhere(chance, buf.len()) };
@@ -50,7 +57,7 @@ pub fn random(chance: &mut Chance) -> Call {
         _ => 0,
     };
     let mut call = Call { which, reported, state, buf, list, room: 0, given: Vec::new(), tables };
-    room(chance, &mut call);
+    room(chance, &mut call, if wide.is_some() { 270 } else { 40 });
     call
 }
 
@@ -136,10 +143,10 @@ const COUNTS: [u16; 18] =
     [0, 1, 7, 8, 9, 125, 126, 127, 128, 2000, 2001, 2040, 2041, 32766, 32767, 32768, 65534, 65535];
 
 /// Nothing lent, too little, as much as is needed or one byte less, plenty.
-fn room(chance: &mut Chance, call: &mut Call) {
+fn room(chance: &mut Chance, call: &mut Call, plenty: usize) {
     let held = call.state.response_len;
     let held = if held > 300 { 0 } else { held };
-    call.room = held + 40;
+    call.room = held + plenty;
     if held == 0 && call.state.response_len > 0 {
         call.room = chance.below(20);
         return;
@@ -150,6 +157,7 @@ fn room(chance: &mut Chance, call: &mut Call) {
         1 => held,
         2 | 3 => held + chance.below(12),
         4..=6 => needed.max(held),
+        7 if plenty > 40 && chance.percent(80) => needed.max(held),
         7 => needed.max(held + 1) - 1,
         8 if chance.percent(4) => held + 260,
         _ => needed.max(held) + chance.below(4),

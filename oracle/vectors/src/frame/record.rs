@@ -162,6 +162,12 @@ impl Call {
         self.tables.each_ref().map(Lent::bytes)
     }
 
+    /// How many bytes of the tables it changed.
+    pub fn changed(&self, left: &Left) -> usize {
+        let differ = |(old, new): (&Vec<u8>, &Vec<u8>)| old.iter().zip(new).filter(|(a, b)| a != b).count();
+        self.table_bytes().iter().zip(&left.tables).map(differ).sum()
+    }
+
     /// All as given.
     pub fn refused(&self, kind: u8) -> Left {
         let (state, response, tables) = (self.state.clone(), self.lent(), self.table_bytes());

@@ -7,11 +7,36 @@ use crate::window::{calc_crc16, calc_lrc};
 
 pub use crate::drive::model::table_of;
 
+/// A tenth of the calls are of many cells: their function, whose table then has 2,048 coils or 128 registers.
+pub fn wide(chance: &mut Chance) -> Option<u8> {
+    chance.percent(10).then(|| chance.pick(&[1, 2, 3, 4, 15, 16]))
+}
+
+/// How many cells that table has, and the counts around each bound.
+fn width(function: u8) -> (usize, &'static [usize]) {
+    match function {
+        1 | 2 => (2048, &[1999, 2000, 2001, 2040, 2041, 2048]),
+        3 | 4 => (128, &[124, 125, 126, 127, 128]),
+        15 => (2048, &[1967, 1968, 1969, 2040]),
+        _ => (128, &[122, 123, 124, 127]),
+    }
+}
+
+/// First cell and count of a request of many cells: any number of them, or one around a bound.
+fn wide_extent(chance: &mut Chance, function: u8) -> (u16, u16) {
+    let (cells, bounds) = width(function);
+    let count = if chance.percent(50) { chance.pick(bounds) } else { 1 + chance.below(cells) };
+    let last = cells - count;
+    let reg = if chance.percent(10) { chance.near(last, 1) } else { chance.below(last + 1) };
+    (reg as u16, count as u16)
+}
+
 /// Unit, function, first cell, count or value, and for functions 15 and 16 byte count and data; at least six bytes.
-pub fn body(chance: &mut Chance, unit: u8, list: &[u8], tables: &[Lent; 4]) -> Vec<u8> {
-    let function = match chance.below(16) {
-        0 => chance.byte(),
-        1 => chance.pick(&[0, 7, 14, 17, 43, 127, 128, 255]),
+pub fn body(chance: &mut Chance, unit: u8, list: &[u8], tables: &[Lent; 4], wide: Option<u8>) -> Vec<u8> {
+    let function = match (wide, chance.below(16)) {
+        (Some(function), _) => function,
+        (_, 0) => chance.byte(),
+        (_, 1) => chance.pick(&[0, 7, 14, 17, 43, 127, 128, 255]),
         _ => chance.pick(&super::random::FUNCTIONS),
     };
     let unit = match chance.below(16) {
@@ -21,8 +46,11 @@ pub fn body(chance: &mut Chance, unit: u8, list: &[u8], tables: &[Lent; 4]) -> V
     };
     let which = table_of(function);
     let cells = if tables[which].len == 0 { 40 } else { tables[which].cells_there(which) };
-    let (reg, mut count) = extent(chance, cells);
-    if chance.percent(8) {
+    let (reg, mut count) = match wide {
+        Some(function) => wide_extent(chance, function),
+        None => extent(chance, cells),
+    };
+    if wide.is_none() && chance.percent(8) {
         count = chance.pick(&[0, 123, 124, 125, 126, 1968, 1969, 2000, 2001, 65535]);
     }
     let value = match function {
@@ -120,8 +148,20 @@ pub fn damage(chance: &mut Chance, bytes: &mut Vec<u8>) {
 }
 
 /// Small tables, some with spare bytes, some too short for their cells, some of more cells than there may be; now and
-/// then one of about 65,536 cells, and not two, so that the program that replays them needs room for one.
-pub fn tables(chance: &mut Chance) -> [Lent; 4] {
+/// then one of about 65,536 cells, and not two, so that the program that replays them needs room for one. The table of
+/// a call of many cells holds them all.
+pub fn tables(chance: &mut Chance, wide: Option<u8>) -> [Lent; 4] {
+    let mut tables = small_tables(chance);
+    if let Some(function) = wide {
+        let which = table_of(function);
+        let cells = width(function).0;
+        let len = bytes_of(cells, BITS_TABLES[which]) + chance.below(2);
+        tables[which] = Lent { front: chance.bytes(len), filler: chance.byte(), len, cells };
+    }
+    tables
+}
+
+fn small_tables(chance: &mut Chance) -> [Lent; 4] {
     let mut large = false;
     [COILS, DISCRETES, HOLDINGS, INPUTS].map(|which| {
         let bits = BITS_TABLES[which];

@@ -14,7 +14,7 @@ returns c = sym (kind-illegal _ (c .enum-told .given .1))
 returns-2 : tie.Need-returns-2
 returns-2 c =
     sym (kind-other (c .before .args .kind) (λ e.
-    miss (0 ∷ 1 ∷ 2 ∷ 3 ∷ 5 ∷ 6 ∷ 7 ∷ []) 4 tt (rw e at (c .match .keys2))))
+    miss (0 ∷ 1 ∷ 2 ∷ 3 ∷ 5 ∷ 6 ∷ []) 4 tt (rw e at (c .match .keys2))))
 
 pub kind-code-spec : {M : Type 1} → statement M
 kind-code-spec = tie.close (tie.spec (λ c. search needs) returns returns-2)

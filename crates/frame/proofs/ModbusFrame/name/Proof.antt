@@ -1,8 +1,9 @@
 -- `frame::ModbusFrame::name` meets its contract: no function, one that is not supported, and one that is.
 -- Assumes nothing.
-use mathlib.Core.Path.{sym, _∙_}
+use mathlib.Core.Path.{sym, ap, _∙_}
 use native.Mathlib.Omega.{arith}
 use borrow.Author.Needs.{needs}
+use Rattle.frame.specs.State.{functionPaper}
 use Rattle.frame.proofs.StateLaws.{left}
 use Rattle.frame.proofs.ParseLaws.{named-short, named-unsupported, named-supported}
 use Rattle.frame.proofs.ModbusFrame.name.Statement.{statement}
@@ -18,7 +19,7 @@ returns-2 : tie.Need-returns-2
 returns-2 c out =
     let p = c .before .before .before in
     let a = p .before .before .before .before .args in
-    let e = sym (p .function-of .ensures) ∙ c .before .enum-told .given .1 in
+    let e = sym (p .function-of .ensures) ∙ ap functionPaper (c .before .enum-told .given .1) in
     c .answer-unsupported .ensures out
     ∙ sym (named-unsupported (a .broadcast) (a .self) (a .buf .now) out (omega arith) e)
 
@@ -27,7 +28,7 @@ returns-3 c out =
     let p = c .before .before .before in
     let q = p .before .before in
     let a = q .before .before .before .before .args in
-    let e = sym (q .function-of .ensures) ∙ p .f .given .1 in
+    let e = sym (q .function-of .ensures) ∙ ap functionPaper (p .f .given .1) in
     c .request .ensures out
     ∙ sym (named-supported (a .broadcast) (a .self) (a .buf .now) out (omega arith) _ e _
     (c .before .with-func .ensures))
