@@ -9,10 +9,11 @@ uint16_t crate_crc(const uint8_t *bytes, size_t n);
 
 static struct crate *server;
 
-/* The crate's storage has its sizes at compile time, and it answers a count of 0 otherwise than the Modbus document. */
+/* The crate's storage has its sizes at compile time; it answers a count of 0 otherwise than the Modbus document, and takes
+ * no TCP frame above 256 bytes. */
 static int start(const struct row *row) {
     server = crate_new();
-    return row->kind == CRC || (row->cells == 10000 && row->count > 0);
+    return row->kind == CRC || (row->cells == 10000 && row->count > 0 && (row->kind != TCP || request_of(row).len <= 256));
 }
 
 static const uint8_t *reply(void) { return crate_reply(server); }

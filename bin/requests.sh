@@ -10,7 +10,8 @@ asked() {
 
 # requests TRANSPORT: those that are compared
 requests() {
-    local registers=121 coils=1944 most=121 # the most that goes into a TCP frame
+    local registers='121 123' coils='1944 1968' most=123 # the most in a TCP frame of the crate, and in any frame
+    [ "$1" != tcp ] || most=121
     asked 'read # registers' "$1" ours 3 104 2 125
     asked 'read # coil on a byte' "$1" ours 1 104 1
     asked 'read # coil off a byte' "$1" ours 1 107 1
@@ -18,7 +19,6 @@ requests() {
     asked 'read # coils off a byte' "$1" ours 1 107 2000
     asked 'write # register' "$1" ours 6 104 1
     asked 'write # coil' "$1" ours 5 107 1
-    [ "$1" = tcp ] || { registers='121 123' && coils='1944 1968' && most=123; }
     asked 'write # registers' "$1" ours 16 104 $registers
     asked 'write # coils on a byte' "$1" ours 15 104 $coils
     asked 'write # coils off a byte' "$1" ours 15 107 $coils

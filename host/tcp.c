@@ -100,9 +100,9 @@ static int is_ready(const struct client *c) {
 
 /* The next frame, of which the driver decides alone. The TCP guide has a frame of another protocol "simply discarded";
  * the driver calls it FrameBroken, gives no reply, and the client goes on, since the length tells where the next
- * frame begins. So it is for the lengths that the guide allows and document 01 does not. But a length that no Modbus
- * frame has tells nothing: whatever it was meant to be, the place of the next frame is lost. Then what is held goes to
- * the driver, which calls it FrameBroken, and the client is let go after the replies that are due to it. */
+ * frame begins. But a length that no Modbus frame has tells nothing: whatever it was meant to be, the place of the next
+ * frame is lost. Then what is held goes to the driver, which calls it FrameBroken, and the client is let go after the
+ * replies that are due to it. */
 static void serve_next(struct tcp *t, struct client *c, struct station *s, int64_t now) {
     c->deaf = is_lost(length_field(c));
     size_t len = c->deaf ? c->have : HEADER + length_field(c);

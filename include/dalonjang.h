@@ -114,7 +114,7 @@ struct dalonjang_setup {
  * holdings, inputs
  *                two bytes a cell, high byte first. At least 2 x cells bytes. A table of 0 cells may be an empty slice.
  * frame          the frame, whole and as sent: RTU with its CRC, ASCII as text from the colon to CR LF, TCP with its
- *                header. Lengths outside the limits (RTU 4 to 256, ASCII 9 to 511, TCP 12 to 256) are FRAME_BROKEN.
+ *                header. Lengths outside the limits (RTU 4 to 256, ASCII 9 to 511, TCP 8 to 260) are FRAME_BROKEN.
  * reply          room for the reply, DALONJANG_REPLY_ROOM or DALONJANG_REPLY_ROOM_ASCII bytes or more.
  *
  * What is left behind:
@@ -178,7 +178,12 @@ struct dalonjang_answer {
  * FRAME_BROKEN   the frame would be longer than 255 (byte count above 246 on RTU, 118 on ASCII; TCP length above 249),
  *                the TCP protocol number is not zero, or an ASCII character is no digit (lower case is none).
  * BAD_SETUP      proto above 2.
- * An unknown function is guessed as six bytes between header and check. Nothing is written in any case. */
+ * An unknown function is guessed as six bytes between header and check. Nothing is written in any case.
+ *
+ * The guess is the crate's, and answers in a byte: dalonjang_drive takes longer frames than it does. So on TCP do not
+ * ask it: six bytes of header have come, and the frame is 6 and bytes 4 and 5, high first; a number outside 2 to 254
+ * there is no Modbus frame. On ASCII go to the LF: a line may have 511 characters. On RTU its limit costs only a write
+ * that is refused anyway (byte counts above 246); there the silence of the line ends a frame. */
 struct dalonjang_answer dalonjang_guess_request_frame_len(const uint8_t *frame, size_t frame_len, uint8_t proto);
 
 /* The same for a response, for whoever asks: functions 1 to 4 by the byte count in the third byte (at most 250 on RTU,

@@ -1,4 +1,4 @@
-/* One call of dalonjang_drive as a record, for the programs that test it. Built with -DFAULT=1 to 6 the library's
+/* One call of dalonjang_drive as a record, for the programs that test it. Built with -DFAULT=1 to 7 the library's
  * answer is made slightly wrong on its way back, to show that a program sees it. */
 #ifndef ASKED_H
 #define ASKED_H
@@ -70,6 +70,9 @@ static inline struct dalonjang_result spoilt(const struct asked *a, struct dalon
         break;
     case 6: /* a broadcast is answered */
         if (r.outcome == DALONJANG_BROADCAST_DONE) r = echoed(a);
+        break;
+    case 7: /* a TCP frame above 256 bytes is broken, as in the crate */
+        if (a->frame.len > 256) r = (struct dalonjang_result){0, DALONJANG_FRAME_BROKEN, 0};
         break;
     default: break;
     }

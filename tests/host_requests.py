@@ -39,9 +39,13 @@ def rows(most_coils, most_registers):
     )
 
 
+# functions 7, 17 and 43/14 as their clients send them, shorter than any request that is served
+SHORT = tuple((body, bytes([1, body[1] + 128, 1])) for body in (bytes([1, 7]), bytes([1, 17]), bytes([1, 43, 14, 1, 0])))
+
+
 def test_tcp_requests(program):
     with Preset(program) as server, Client(server.port) as client:
-        for body, reply in rows(1944, 121):
+        for body, reply in rows(1968, 123) + SHORT:
             exchange(client, tcp, body, reply)
 
 

@@ -87,12 +87,12 @@ def test_replies_not_taken(program):
 
 
 def test_broken_streams(program):
-    """Document 01's FrameBroken: no reply. Where the next frame begins is known from a length of 2 to 254, and the
+    """FrameBroken and WrongLength: no reply. Where the next frame begins is known from a length of 2 to 254, and the
     client goes on; from any other it is not, and the client is closed after the replies that are due."""
     with Preset(program) as server, Client(server.port) as good:
         with Client(server.port) as client:
             for broken in (b"\0\1\0\1\0\6" + READ, b"\0\1\1\0\0\6" + READ, b"\0\1\0\0\0\2\1\3", tcp(READ[:5]),
-                           tcp(asked(16, 0, 122, bytes(244))), tcp(asked(16, 0, 123, bytes(246)) + b"\0")):
+                           tcp(asked(16, 0, 122, bytes(244)) + b"\0"), tcp(asked(16, 0, 123, bytes(246)) + b"\0")):
                 client.send(broken + tcp(READ, 99))
                 same(client.receive(13), tcp(READ_REPLY, 99), f"the reply after {broken[:8].hex()}")
         for field in (0, 1, 255, 256, 65535):
@@ -103,7 +103,8 @@ def test_broken_streams(program):
             client.send(b"GET / HTTP/1.1\r\n\r\n")
             same(client.closed(), b"", "the reply to another protocol")
         same(good.ask(READ), READ_REPLY, "the reply to the good client")
-        check(sum(line.endswith("FrameBroken") for line in server.log()) == 12, "not every broken frame is logged")
+        for outcome, count in (("FrameBroken", 8), ("WrongLength", 4)):
+            same(sum(line.endswith(outcome) for line in server.log()), count, f"how often {outcome} is logged")
 
 
 def test_noise(program):

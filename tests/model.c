@@ -44,7 +44,7 @@ static int unwrap(const struct asked *a, uint8_t *body, size_t *n) {
         *n = (len - 3) / 2 - 1;
         return sum(body, *n + 1) == 0 ? 0 : 6;
     default:
-        if (len < 12 || len > 256 || f[2] != 0 || f[3] != 0 || word(f + 4) != len - 6) return 5;
+        if (len < 8 || len > 260 || f[2] != 0 || f[3] != 0 || word(f + 4) != len - 6) return 5;
         *n = len - 6;
         memcpy(body, f + 6, *n);
         return 0;

@@ -6,7 +6,7 @@
 #include <stdlib.h>
 #include <string.h>
 
-enum { LAST = 19999, LAST_HOLDING = 4711 }; /* as in tests/peer_plan.py */
+enum { LAST = 19999, LAST_HOLDING = 4711, MOST_BITS = 1968, MOST_WORDS = 123 }; /* as in tests/peer_plan.py */
 
 static modbus_t *line;
 
@@ -61,7 +61,10 @@ static void exceptions(int tail) {
     uint16_t words[2];
     MUST(modbus_read_registers(line, LAST, 2, words) == -1 && errno == EMBXILADD);
     MUST(modbus_write_bit(line, LAST + 1, 1) == -1 && errno == EMBXILADD);
-    refused_raw((uint8_t[]){1, 43, 14, 1, 0, 0}, 6, 1, tail);
+    uint8_t id[16];
+    MUST(modbus_report_slave_id(line, sizeof id, id) == -1 && errno == EMBXILFUN);
+    refused_raw((uint8_t[]){1, 7}, 2, 1, tail);
+    refused_raw((uint8_t[]){1, 43, 14, 1, 0}, 5, 1, tail);
     refused_raw((uint8_t[]){1, 3, 0, 0, 0, 126}, 6, 3, tail);
     refused_raw((uint8_t[]){1, 5, 0, 0, 0, 1}, 6, 3, tail);
 }
@@ -79,17 +82,17 @@ static void units(int base) {
 
 int main(int argc, char **argv) {
     if (argc != 4) return 2;
-    int tcp = strcmp(argv[1], "tcp") == 0, base = atoi(argv[3]), bits = tcp ? 1944 : 1968, words = tcp ? 121 : 123;
+    int tcp = strcmp(argv[1], "tcp") == 0, base = atoi(argv[3]);
     line = tcp ? modbus_new_tcp("127.0.0.1", atoi(argv[2])) : modbus_new_rtu(argv[2], 19200, 'E', 8, 1);
     MUST(line != NULL && modbus_set_slave(line, 1) == 0 && modbus_set_response_timeout(line, 10, 0) == 0);
     MUST(modbus_connect(line) == 0);
     reads(base);
     small_writes(base);
-    largest_writes(base, bits, words);
+    largest_writes(base, MOST_BITS, MOST_WORDS);
     exceptions(tcp ? 0 : 2);
     units(base);
     printf("1 2 3 4 5 6 15 16; 2000 coils and 125 registers read, %d and %d written; exceptions 1 2 3; another unit; "
-           "broadcast\n", bits, words);
+           "broadcast\n", MOST_BITS, MOST_WORDS);
     modbus_close(line);
     modbus_free(line);
     return 0;

@@ -54,7 +54,7 @@ def functions(peer, base, most):
 
 def main(transport, where, base):
     peer = Mbpoll(transport, where)
-    most = MOST_WRITTEN[transport][1]
+    most = MOST_WRITTEN[1]
     functions(peer, base, most)
     peer.refused("Illegal data address", "10", 1, HOLDING, LAST, "-c", "2", peer.where)
     peer.refused("Illegal data address", "10", 1, COIL, LAST + 1, peer.where, "1")

@@ -10,7 +10,7 @@ INPUTS = [17, 4660]
 LAST_HOLDING = 4711
 COILS_SET = [1, 0, 1]
 # coils and registers in one frame, by document 01's bounds
-MOST_WRITTEN = {"tcp": (1944, 121), "rtu": (1968, 123), "ascii": (1968, 123)}
+MOST_WRITTEN = (1968, 123)
 
 IMAGE = f"""dalonjang tables
 discretes 0 {' '.join(map(str, DISCRETES))}

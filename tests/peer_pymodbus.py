@@ -16,6 +16,8 @@ try:
     from pymodbus.pdu.file_message import FileRecord, ReadFileRecordRequest
 except ImportError:  # before 3.7
     from pymodbus.file_message import FileRecord, ReadFileRecordRequest
+    from pymodbus.mei_message import ReadDeviceInformationRequest
+    from pymodbus.other_message import ReadExceptionStatusRequest, ReportSlaveIdRequest
 
 logging.disable(logging.CRITICAL)  # it logs what is meant to be silent
 
@@ -69,13 +71,16 @@ class Peer:
         return True
 
     def unserved(self):
-        """Function 20, which the server does not have."""
+        """Functions 7, 17, 20 and 43/14, which the server does not have."""
         record = FileRecord(file_number=4, record_number=1, record_length=2)
-        if hasattr(self.client, "read_file_record"):
-            answer = self.call("read_file_record", [record])
-        else:
-            answer = self.client.execute(ReadFileRecordRequest([record], unit=1))
-        same(getattr(answer, "exception_code", None), 1, f"the exception after function 20 ({answer})")
+        for function, names, arguments, request in (
+                (7, ("read_exception_status",), (), lambda: ReadExceptionStatusRequest(unit=1)),
+                (17, ("report_slave_id", "report_device_id"), (), lambda: ReportSlaveIdRequest(unit=1)),
+                (20, ("read_file_record",), ([record],), lambda: ReadFileRecordRequest([record], unit=1)),
+                (43, ("read_device_information",), (1, 0), lambda: ReadDeviceInformationRequest(1, 0, unit=1))):
+            name = next((name for name in names if hasattr(self.client, name)), None)
+            answer = self.call(name, *arguments) if name else self.client.execute(request())
+            same(getattr(answer, "exception_code", None), 1, f"the exception after function {function} ({answer})")
 
     def unanswered(self, name, *arguments, unit):
         """A short wait, and then all anew: what pymodbus does after a lost reply is its own affair."""
@@ -110,7 +115,7 @@ def functions(peer, base, most_coils, most_registers):
 
 def main(transport, where, base):
     peer = Peer(transport, where)
-    most = MOST_WRITTEN[transport]
+    most = MOST_WRITTEN
     functions(peer, base, *most)
     peer.unserved()
     check(peer.refused(2, "read_holding_registers", LAST, count=2), "pymodbus does not ask for two cells")

@@ -1,5 +1,5 @@
--- On every good frame of the right length, with a function below 128 that the driver serves as one of the crate's eight or not at all, and
--- but for the values that the crate does not test, the crate's chain of calls gives the driver's reply and leaves the driver's tables, whether the request is
+-- On every good frame of the right length and within the crate's bounds, with a function below 128 that the driver serves as one of the crate's
+-- eight or not at all, and but for the values that the crate does not test, the crate's chain of calls gives the driver's reply and leaves the driver's tables, whether the request is
 -- served, refused or ignored.
 -- Assumes nothing.
 use mathlib.Core.Logic.{_⊎_, inl, by-cases}
@@ -24,7 +24,7 @@ use Rattle.tables.specs.Lent.{Lent, tablesOf}
 use Rattle.driver.specs.Driven.{setupOf, driven, called}
 use Rattle.driver.specs.declared.Setup.{Setup as Numbers}
 use Rattle.demands.specs.Order.{Sent}
-use Rattle.chain.specs.Chain.{chainedTo, chained, handed, asFn, Shared, fullest, AsDriven, Untested}
+use Rattle.chain.specs.Chain.{chainedTo, chained, handed, asFn, Shared, Bounded, fullest, AsDriven, Untested}
 use Rattle.demands.proofs.Judge.{judge-sent}
 use Rattle.chain.proofs.Shared.{as-code}
 use Rattle.chain.proofs.Response.{nothing-line, gives}
@@ -63,7 +63,7 @@ module _ (numbers : Numbers) (list : List ℕ) (l : Lent) (reply frame out : Lis
       (called numbers list l frame reply)
 
   module _ (room : fullest (proto s) ≤ length out) (m : Message) (h : Sent s frame m) (low : numberOf m ≤ 127)
-      (shared : Shared (numberOf m))
+      (shared : Shared (numberOf m)) (within : Bounded (proto s) (m .body))
       (fits : (fn : Ported) → numberOf m ≡ codeOf fn → Lengthy (asFn fn) (m .body) × (¬ Untested fn (m .body))) where
     two : 2 ≤ length (m .body)
     two = omega (arith, h .framed .low, least-two (proto s))
@@ -78,7 +78,7 @@ module _ (numbers : Numbers) (list : List ℕ) (l : Lent) (reply frame out : Lis
         → chained unit (proto s) list l (handed (proto s) frame) out ≡ chainedTo 0 [] (l .coilBytes) (l .holdingBytes)
     unfolding Broadcast
     ignored (reads t) c b i =
-        let held = laid (proto s) (m .tag) (m .body) frame (h .framed) in
+        let held = laid (proto s) (m .tag) (m .body) frame (h .framed) within in
         chain-ignored (held .0) (record { room = room; listed = pick-yes _ _ _ b; ours = inl b }) l t refl c two
     ignored (one k) c b i = absurd i
     ignored (many k) c b i = absurd i
@@ -87,13 +87,14 @@ module _ (numbers : Numbers) (list : List ℕ) (l : Lent) (reply frame out : Lis
         → chained unit (proto s) list l (handed (proto s) frame) out ≡ chainedTo 0 [] (l .coilBytes) (l .holdingBytes)
     unfolding Broadcast Ours
     foreign-ignored n =
-        chain-foreign (laid (proto s) (m .tag) (m .body) frame (h .framed) .0) unit list out (omega (arith, two)) n l
+        chain-foreign (laid (proto s) (m .tag) (m .body) frame (h .framed) within .0) unit list out (omega (arith, two)) n l
 
     by-fault : (x : Fault) → judge s frame ≡ stop x → Alike
     by-fault (coded n x) e =
         let why = refused s frame n x y e in
         let z = same-message s frame m n h (why-sent x why) in
         excepted-alike numbers list l reply frame out y room n x (subst (λ k. Shared (numberOf k)) z shared)
+        (subst (λ k. Bounded (proto s) (k .body)) z within)
         (subst (λ k. (fn : Ported) → numberOf k ≡ codeOf fn → ¬ Untested fn (k .body)) z (λ fn c. fits fn c .1)) e
     by-fault (quiet o) e =
         needed-stop _ _ _ (sym (judge-sent s frame m h) ∙ e) (λ n _. silent-alike o e (foreign-ignored n)) λ reached e₁.
@@ -116,4 +117,5 @@ module _ (numbers : Numbers) (list : List ℕ) (l : Lent) (reply frame out : Lis
         (λ n a e.
         let (f, j) = judged s frame n a y e in
         let z = same-message s frame m n h (j .known .sent) in
-        served numbers list l reply frame out y room n a (subst (λ k. Shared (numberOf k)) z shared) e)
+        served numbers list l reply frame out y room n a (subst (λ k. Shared (numberOf k)) z shared)
+        (subst (λ k. Bounded (proto s) (k .body)) z within) e)

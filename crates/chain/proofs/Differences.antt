@@ -1,6 +1,6 @@
--- Where the crate's chain of calls and the driver differ on a frame to our own unit, each with its condition and both
--- answers: an unknown function is answered without a look at the check, a count of 0 is served, and a byte count is
--- not held against its count.
+-- Where the crate's chain of calls and the driver differ on a frame, each with its condition and both answers: a TCP
+-- frame outside the crate's bounds is refused; to our own unit an unknown function is answered without a look at the
+-- check, a count of 0 is served, and a byte count is not held against its count.
 -- Assumes nothing.
 use mathlib.Core.Bool.{Bool, true, false}
 use mathlib.Core.Logic.{_⊎_, inl, inr, _≢_, by-cases}
@@ -8,6 +8,7 @@ use mathlib.Core.Path.{_≡_, refl, sym, ap, ap₂, _∙_, subst}
 use mathlib.Core.List.{List, [], _∷_, append-nil}
 use Prim.Native.Nat.{ℕ, _+_, _*_, _/_, _≤_, _<_}
 use native.Mathlib.Omega.{arith}
+use native.Mathlib.Nat.{div-add-mod'}
 use lib.ListN.{length, take, drop, getD, length-drop}
 use lib.Seq.{length-take-le}
 use Rattle.modbus.specs.Step.{Step, stop, go, choose, _≤?_}
@@ -21,21 +22,25 @@ use Rattle.modbus.specs.Setup.{Setup, proto, Valid, Roomy}
 use Rattle.modbus.specs.Unit.{Listed, listed?, Broadcast, Ours}
 use Rattle.modbus.specs.Decode.{Message, unitOf, numberOf, Lengthy, Valued}
 use Rattle.modbus.specs.declared.ErrorKind.{ErrorKind}
-use Rattle.modbus.specs.declared.ErrorKind.the-variants.{OOBContext}
+use Rattle.modbus.specs.declared.ErrorKind.the-variants.{OOBContext, FrameBroken}
 use Rattle.modbus.specs.declared.ModbusProto.{ModbusProto}
 use Rattle.modbus.specs.declared.ModbusProto.the-variants.{Rtu, Ascii, TcpUdp}
-use Rattle.modbus.proofs.StepLaws.{pick-no, holds, holds-not}
+use Rattle.modbus.proofs.StepLaws.{pass, halt, pick-no, holds, holds-not}
 use Rattle.modbus.proofs.StorageLaws.{size-sound}
 use Rattle.tables.specs.Calls.{stored, storedWhole}
 use Rattle.tables.specs.Lent.{Lent, tableOf, cellsOf, tablesOf}
 use Rattle.tables.proofs.CallsLaws.{stored-inside, stored-unmatched, stored-outside}
+use Rattle.incoming.specs.Envelope.{begins}
+use Rattle.incoming.proofs.EnvelopeLaws.{header-length}
+use Rattle.frame.specs.State.{fresh, After, refused, ended}
+use Rattle.frame.specs.Parse.{orLeave, frameParsed}
 use Rattle.process.specs.Process.{storedMany, tableFor}
 use Rattle.driver.specs.Driven.{setupOf}
 use Rattle.driver.specs.declared.Setup.{Setup as Numbers}
 use Rattle.demands.specs.Order.{Shaped, Known, Coded, exception-sent, ignored, frame-broken, frame-check, bad-value}
 use Rattle.demands.proofs.PlaceLaws.{value-by-places}
 use Rattle.demands.proofs.Judge.{Returns, refusal-returns}
-use Rattle.chain.specs.Chain.{chainedTo, chained, handed, asFn, onLine, Serial, fullest, Gives, Untested, Misfit, spoken}
+use Rattle.chain.specs.Chain.{chainedTo, fromParsed, chained, handed, asFn, onLine, Serial, Bounded, fullest, Gives, Untested, Misfit, spoken}
 use Rattle.chain.proofs.Shared.{as-code}
 use Rattle.chain.proofs.Response.{spoken-line, closed, closed-line, gives}
 use Rattle.chain.proofs.Laid.{Laid, front-of-line, laid}
@@ -111,6 +116,32 @@ module _ (l : Lent) where
       misfit registers (l .holdingBytes) (l .holdingCells) ok (wordAt b 2) (length (drop 7 b) / 2) (drop 7 b)
       (elim f [ inl e ↦ inl (λ q. omega arith) | inr h ↦ inr (omega arith) ])
 
+-- ---- a good frame outside the crate's bounds, which only TCP has: parse refuses it, whatever its unit and function, and nothing is sent
+
+tcp-unbegun : (a b : ℕ) (body : List ℕ) → ¬ Bounded TcpUdp body → begins TcpUdp 0 (wrap TcpUdp (a ∷ b ∷ []) body) ≡ stop FrameBroken
+tcp-unbegun a b body n =
+    let d = div-add-mod' (length body) 256 in
+    header-length 0 _ (omega arith) refl (λ (low, high). n (omega arith, omega arith))
+
+unparsed : (unit : ℕ) (buf list out : List ℕ) → begins TcpUdp 0 buf ≡ stop FrameBroken
+    → frameParsed (fresh unit TcpUdp) buf list out ≡ refused FrameBroken (fresh unit TcpUdp) out
+unfolding frameParsed orLeave
+unparsed unit buf list out e =
+    ap ended (pass _ _ _ (omega arith) ∙ halt _ _ (ap (orLeave (fresh unit TcpUdp) out) e))
+
+pub length-refused : (p : ModbusProto) (tag body f : List ℕ) → Framed p tag body f → ¬ Bounded p body
+    → (unit : ℕ) (list : List ℕ) (l : Lent) (out : List ℕ)
+    → chained unit p list l (handed p f) out ≡ chainedTo 23 [] (l .coilBytes) (l .holdingBytes)
+unfolding chained handed
+length-refused Rtu tag body f h n unit list l out = absurd (n tt)
+length-refused Ascii tag body f h n unit list l out = absurd (n tt)
+length-refused TcpUdp [] body f h n unit list l out = absurd (omega (arith, h .tagged))
+length-refused TcpUdp (a ∷ []) body f h n unit list l out = absurd (omega (arith, h .tagged))
+length-refused TcpUdp (a ∷ b ∷ c ∷ r) body f h n unit list l out = absurd (omega (arith, h .tagged))
+length-refused TcpUdp (a ∷ b ∷ []) body f h n unit list l out =
+    ap (λ (x : After). fromParsed x f l)
+    (unparsed unit f list out (ap (begins TcpUdp 0) (h .whole) ∙ tcp-unbegun a b body n))
+
 module _ (numbers : Numbers) (list : List ℕ) (l : Lent) (reply frame out : List ℕ) (y : Bytes frame) where
   abbrev s : Setup
   s = setupOf numbers list l reply
@@ -157,7 +188,7 @@ module _ (numbers : Numbers) (list : List ℕ) (l : Lent) (reply frame out : Lis
 
     -- ---- a good frame with a value that the driver refuses by code 3, to us or, a write, to all
 
-    module _ (m : Message) (b : Bool) (e : choose (listed? (unitOf m) list) true false ≡ b) where
+    module _ (m : Message) (within : Bounded (proto s) (m .body)) (b : Bool) (e : choose (listed? (unitOf m) list) true false ≡ b) where
       -- Exception, or BroadcastIgnored
       abbrev outcome : Bool → ℕ
       outcome false = 2
@@ -193,7 +224,7 @@ module _ (numbers : Numbers) (list : List ℕ) (l : Lent) (reply frame out : Lis
           → wordAt (m .body) 2 ≤ cellsOf l t
           → Refused (wrap (proto s) (m .tag) (unitOf m ∷ codeOf (reads t) ∷ 0 ∷ [])) (l .coilBytes) (l .holdingBytes)
       nothing-read t k n z i =
-          let (h, g) = laid (proto s) (m .tag) (m .body) frame (k .sent .framed) in
+          let (h, g) = laid (proto s) (m .tag) (m .body) frame (k .sent .framed) within in
           let (o, d) =
           nothing-shown t (storage t .cell (tableOf l t)) (wordAt (m .body) 2) (wordAt (m .body) 4) z in
           let w =
@@ -223,7 +254,7 @@ module _ (numbers : Numbers) (list : List ℕ) (l : Lent) (reply frame out : Lis
           → Refused (wrap (proto s) (m .tag) (take 6 (m .body))) (l .coilBytes)
           (store registers (l .holdingBytes) (wordAt (m .body) 2) (values word n (drop 7 (m .body))))
       uncounted-stored k long w most n z few inside =
-          let (h, g) = laid (proto s) (m .tag) (m .body) frame (k .sent .framed) in
+          let (h, g) = laid (proto s) (m .tag) (m .body) frame (k .sent .framed) within in
           let d : length (drop 7 (m .body)) ≡ 2 * n = simp length-drop (omega (arith, long)) in
           let ok = written-sound numbers list l reply (k .sent .valid) word in
           let c = l .holdingBytes in
@@ -242,7 +273,7 @@ module _ (numbers : Numbers) (list : List ℕ) (l : Lent) (reply frame out : Lis
           → getD (m .body) 6 0 ≡ 0 → wordAt (m .body) 2 ≤ cells k l
           → Refused (wrap (proto s) (m .tag) (take 6 (m .body))) (l .coilBytes) (l .holdingBytes)
       nothing-written k j long z o inside =
-          let (h, g) = laid (proto s) (m .tag) (m .body) frame (j .sent .framed) in
+          let (h, g) = laid (proto s) (m .tag) (m .body) frame (j .sent .framed) within in
           let d : length (drop 7 (m .body)) ≡ 0 = simp length-drop (omega (arith, long)) in
           let ok = written-sound numbers list l reply (j .sent .valid) k in
           let stores = empty-stored l k (m .body) z d ok inside (proto s) unit (answers b) (startOf (proto s)) in
@@ -264,14 +295,14 @@ module _ (numbers : Numbers) (list : List ℕ) (l : Lent) (reply frame out : Lis
           → Misfit l fn (m .body)
           → Refused (wrap (proto s) (m .tag) (unitOf m ∷ exception (numberOf m) 2)) (l .coilBytes) (l .holdingBytes)
       misfit-refused (reads t) k n u f =
-          let (h, g) = laid (proto s) (m .tag) (m .body) frame (k .sent .framed) in
+          let (h, g) = laid (proto s) (m .tag) (m .body) frame (k .sent .framed) within in
           let c =
           chain-read-outside h (heard (asFn (reads t)) k) l g t (to-us t k) (k .called ∙ as-code (reads t)) n (omega arith)
           (table-sound numbers list l reply (k .sent .valid) t) (omega arith) in
           (gives c (own-line (asFn (reads t)) k), refuses (asFn (reads t)) k n (λ v. omega (arith, v)))
       misfit-refused (one j) k n u f = absurd f
       misfit-refused (many j) k n u f =
-          let (h, g) = laid (proto s) (m .tag) (m .body) frame (k .sent .framed) in
+          let (h, g) = laid (proto s) (m .tag) (m .body) frame (k .sent .framed) within in
           let ok = written-sound numbers list l reply (k .sent .valid) j in
           let d : length (drop 7 (m .body)) ≡ getD (m .body) 6 0 = simp length-drop (omega (arith, n)) in
           let stops = misfit-stops l j (m .body) d ok f (proto s) unit (answers b) (startOf (proto s)) in

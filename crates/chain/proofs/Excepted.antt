@@ -30,7 +30,7 @@ use Rattle.process.specs.Process.{Legal, storedMany}
 use Rattle.driver.specs.Driven.{setupOf, driven, called}
 use Rattle.driver.specs.declared.Setup.{Setup as Numbers}
 use Rattle.demands.specs.Order.{Known}
-use Rattle.chain.specs.Chain.{chainedTo, chained, handed, asFn, Shared, fullest, AsDriven, Untested, spoken}
+use Rattle.chain.specs.Chain.{chainedTo, chained, handed, asFn, Shared, Bounded, fullest, AsDriven, Untested, spoken}
 use Rattle.chain.proofs.Shared.{as-code}
 use Rattle.chain.proofs.Response.{closed, spoken-line, gives}
 use Rattle.chain.proofs.Laid.{Laid, Good, laid}
@@ -143,18 +143,18 @@ module _ (numbers : Numbers) (list : List ℕ) (l : Lent) (reply : List ℕ) whe
         ≡ chainedTo 0 (spoken b (closed (proto s) (m .tag) (unit ∷ exception (numberOf m) x))) (l .coilBytes)
         (l .holdingBytes)
 
-    module _ (shared : Shared (numberOf m)) (tested : (fn : Ported) → numberOf m ≡ codeOf fn → ¬ Untested fn (m .body)) where
+    module _ (shared : Shared (numberOf m)) (within : Bounded (proto s) (m .body)) (tested : (fn : Ported) → numberOf m ≡ codeOf fn → ¬ Untested fn (m .body)) where
       why-excepted : (x : ℕ) → Why s frame m x → Answers x
       unfolding Broadcast Ours
       why-excepted x (no-function sent reached low none) =
-          let held = laid (proto s) (m .tag) (m .body) frame (sent .framed) in
+          let held = laid (proto s) (m .tag) (m .body) frame (sent .framed) within in
           chain-unsupported (held .0) (record { room = room; listed = refl; ours = reached }) l
           (omega (arith, sent .framed .low, least-two (proto s))) low (λ fn q. none (asFn fn) (q ∙ sym (as-code fn)))
       why-excepted x (bad-value f kf nf wf) =
           let (fn, e) = shared f (kf .called) in
           let (k, n, w) = subst (λ (g : Fn). Known s frame m g × Lengthy g (m .body) × (¬ Valued g (m .body))) e (kf, nf, wf) in
           let c = k .called ∙ as-code fn in
-          let held = laid (proto s) (m .tag) (m .body) frame (k .sent .framed) in
+          let held = laid (proto s) (m .tag) (m .body) frame (k .sent .framed) within in
           value-excepted (held .0) (held .1) out b (record { room = room; listed = refl; ours = k .reached })
           (k .sent .valid) fn c (λ q i. k .heeded (holds _ _ refl q, i)) n
           (omega (arith, k .sent .framed .high, most-body (proto s))) w (tested fn c)
@@ -162,7 +162,7 @@ module _ (numbers : Numbers) (list : List ℕ) (l : Lent) (reply : List ℕ) whe
           let (fn, e) = shared f (kf .called) in
           let (k, n, w, j) = subst (λ (g : Fn). Known s frame m g × Lengthy g (m .body) × Valued g (m .body) × (¬ Inside s (asked g (m .body)))) e
           (kf, nf, wf, jf) in
-          let held = laid (proto s) (m .tag) (m .body) frame (k .sent .framed) in
+          let held = laid (proto s) (m .tag) (m .body) frame (k .sent .framed) within in
           address-excepted (held .0) (held .1) out b (record { room = room; listed = refl; ours = k .reached })
           (k .sent .valid) fn (k .called ∙ as-code fn) (λ q i. k .heeded (holds _ _ refl q, i)) n w j
 
@@ -172,14 +172,14 @@ module _ (numbers : Numbers) (list : List ℕ) (l : Lent) (reply : List ℕ) whe
     reached x (bad-value fn k n w) = k .reached
     reached x (bad-address fn k n w i) = k .reached
 
-    pub excepted-alike : Shared (numberOf m) → ((fn : Ported) → numberOf m ≡ codeOf fn → ¬ Untested fn (m .body))
+    pub excepted-alike : Shared (numberOf m) → Bounded (proto s) (m .body) → ((fn : Ported) → numberOf m ≡ codeOf fn → ¬ Untested fn (m .body))
         → judge s frame ≡ stop (coded m x)
         → AsDriven (proto s) (chained unit (proto s) list l (handed (proto s) frame) out) (drive s (tablesOf l) frame)
         (called numbers list l frame reply)
     unfolding driven
-    excepted-alike shared tested e =
+    excepted-alike shared within tested e =
         let why = refused s frame m x y e in
-        rw e (gives (why-excepted shared tested x why)
+        rw e (gives (why-excepted shared within tested x why)
         (spoken-line (proto s) b (m .tag) unit _
         ∙ own (proto s) b unit (unitOf m) list (m .tag) _ refl (reached x why)
         ∙ sym (refused-reply numbers list l reply frame m b refl x e)))

@@ -23,7 +23,7 @@ use Rattle.modbus.proofs.HexLaws.{untext-text}
 use Rattle.incoming.specs.Envelope.{begins, checkFollows}
 use Rattle.incoming.proofs.EnvelopeLaws.{rtu-begins, ascii-begins, tcp-begins, follows-behind, tcp-checked}
 use Rattle.frame.specs.Parse as parse
-use Rattle.chain.specs.Chain.{decoded, handed, Serial}
+use Rattle.chain.specs.Chain.{decoded, handed, Serial, Bounded}
 use Rattle.chain.proofs.Response.{header}
 
 -- where parse finds this body, and what it copies
@@ -124,17 +124,17 @@ ascii-handed body f y e =
 abbrev pub Held : ModbusProto → List ℕ → List ℕ → List ℕ → ℕ → Type 0
 Held p tag body buf start = Laid p tag body buf start × Good p body buf start
 
-pub laid : (p : ModbusProto) (tag body f : List ℕ) → Framed p tag body f → Held p tag body (handed p f) (startOf p)
+pub laid : (p : ModbusProto) (tag body f : List ℕ) → Framed p tag body f → Bounded p body → Held p tag body (handed p f) (startOf p)
 unfolding handed
-laid Rtu tag body f h =
+laid Rtu tag body f h k =
     subst (λ (b : List ℕ). Held Rtu tag body b 0) (sym (h .whole))
     (front-of-line Rtu tag body (crcBytes body) tt (h .tagged), rtu-good body)
-laid Ascii tag body f h =
+laid Ascii tag body f h k =
     subst (λ (b : List ℕ). Held Ascii tag body b 0) (sym (ascii-handed body f (h .bytes) (h .whole)))
     (front-of-line Ascii tag body (lrc body ∷ []) tt (h .tagged), ascii-good body)
-laid TcpUdp [] body f h = absurd (omega (arith, h .tagged))
-laid TcpUdp (a ∷ []) body f h = absurd (omega (arith, h .tagged))
-laid TcpUdp (a ∷ b ∷ c ∷ r) body f h = absurd (omega (arith, h .tagged))
-laid TcpUdp (a ∷ b ∷ []) body f h =
+laid TcpUdp [] body f h k = absurd (omega (arith, h .tagged))
+laid TcpUdp (a ∷ []) body f h k = absurd (omega (arith, h .tagged))
+laid TcpUdp (a ∷ b ∷ c ∷ r) body f h k = absurd (omega (arith, h .tagged))
+laid TcpUdp (a ∷ b ∷ []) body f h k =
     subst (λ (x : List ℕ). Held TcpUdp (a ∷ b ∷ []) body x 6) (sym (h .whole))
-    (tcp-laid a b body (h .low) (h .high), tcp-checked _ _ _)
+    (tcp-laid a b body (k .0) (k .1), tcp-checked _ _ _)

@@ -28,7 +28,7 @@ use Rattle.tables.proofs.CallsLaws.{stored-inside}
 use Rattle.process.specs.Process.{Legal, valueOf, storedMany}
 use Rattle.driver.specs.Driven.{setupOf, bytesAfter, driven, called}
 use Rattle.driver.specs.declared.Setup.{Setup as Numbers}
-use Rattle.chain.specs.Chain.{chainedTo, chained, handed, asFn, Shared, fullest, AsDriven, spoken}
+use Rattle.chain.specs.Chain.{chainedTo, chained, handed, asFn, Shared, Bounded, fullest, AsDriven, spoken}
 use Rattle.chain.proofs.Shared.{as-code}
 use Rattle.chain.proofs.Response.{closed, spoken-line, gives}
 use Rattle.chain.proofs.Laid.{Laid, Good, laid}
@@ -191,16 +191,16 @@ module _ (numbers : Numbers) (list : List ℕ) (l : Lent) (reply : List ℕ) whe
         ≡ chainedTo 0 (spoken b (closed (proto s) (m .tag) (unitOf m ∷ answer x (found x (seen (apply x (tablesOf l)))))))
         (bytesAfter l x coils) (bytesAfter l x holdings)
 
-    pub served : Shared (numberOf m) → judge s frame ≡ go (m, a)
+    pub served : Shared (numberOf m) → Bounded (proto s) (m .body) → judge s frame ≡ go (m, a)
         → AsDriven (proto s) (chained unit (proto s) list l (handed (proto s) frame) out) (drive s (tablesOf l) frame)
         (called numbers list l frame reply)
     unfolding driven Broadcast Ours
-    served shared e =
+    served shared within e =
         let (f, i) = judged s frame m a y e in
         let (fn, q) = shared f (i .known .called) in
         let j : Judged s frame m a (asFn fn) = subst (Judged s frame m a) q i in
         let framed = j .known .sent .framed in
-        let held = laid (proto s) (m .tag) (m .body) frame framed in
+        let held = laid (proto s) (m .tag) (m .body) frame framed within in
         let b = choose (listed? (unitOf m) list) true false in
         let w = subst (λ (x : Ask). Chains x b) (j .asks)
         (chain-serves (held .0) (held .1) out b (record { room = room; listed = refl; ours = j .known .reached })

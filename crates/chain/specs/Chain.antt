@@ -119,6 +119,12 @@ Serial Rtu = Unit {0}
 Serial Ascii = Unit {0}
 Serial TcpUdp = ⊥
 
+-- the bodies that parse takes: over TCP its length field is 6 to 250 (source 000), where the driver's is 2 to 254
+abbrev pub Bounded : ModbusProto → List ℕ → Type 0
+Bounded Rtu b = Unit {0}
+Bounded Ascii b = Unit {0}
+Bounded TcpUdp b = (6 ≤ length b) × (length b ≤ 250)
+
 -- the longest response: 253 bytes from the unit on, the check of a serial line, the header of TCP; the crate's own
 -- buffer of 256 bytes has room for it on a serial line, but not on TCP
 abbrev pub fullest : ModbusProto → ℕ

@@ -23,7 +23,7 @@ unfolding unwrap
 shape Rtu f = by-cases ((4 ≤? length f) and? (length f ≤? 256)) (λ h. inl (h .0, h .1)) (λ n. inr (fail _ _ _ n))
 shape Ascii f = ascii-shape f
 shape TcpUdp f =
-    by-cases ((12 ≤? length f) and? (length f ≤? 256) and? (getD f 2 0 ≟ 0) and? (getD f 3 0 ≟ 0) and? (wordAt f 4 + 6 ≟ length f))
+    by-cases ((8 ≤? length f) and? (length f ≤? 260) and? (getD f 2 0 ≟ 0) and? (getD f 3 0 ≟ 0) and? (wordAt f 4 + 6 ≟ length f))
     (λ h. inl (h .0, h .1 .0, h .1 .1 .0, h .1 .1 .1 .0, h .1 .1 .1 .1))
     (λ n. inr (fail _ _ _ n))
 

@@ -3,8 +3,10 @@
 use mathlib.Core.List.{List, [], _∷_, map}
 use Prim.Native.Nat.{ℕ}
 use Rattle.modbus.specs.Check.{crc}
-use Rattle.modbus.specs.Table.{Tables}
+use Rattle.modbus.specs.Table.{coils, discretes, holdings, inputs, Tables, Sizes, part}
 use Rattle.modbus.specs.Setup.{Setup}
+use Rattle.modbus.specs.Drive.{Result, drive}
+use Rattle.modbus.specs.Bounds.{zeros}
 use Rattle.modbus.specs.Cases.{caseL}
 use Rattle.tables.specs.Lent.{tablesOf}
 use Rattle.demands.specs.Station.{bench, setupAt, Exchange, exchanged, changing, saying}
@@ -16,13 +18,30 @@ setup n = setupAt (bench (0x00 ∷ 0x00 ∷ [])) n
 abbrev pub start : List ℕ → Tables
 start c = tablesOf (bench c .lent)
 
--- what a case says: of a frame what comes of it, or of some bytes their CRC
+-- over TCP, 1968 coils and 123 holdings of zero: what the longest writes are asked of
+abbrev wideCells : Sizes
+wideCells coils = 1968
+wideCells discretes = 0
+wideCells holdings = 123
+wideCells inputs = 0
+
+abbrev wideSetup : Setup
+wideSetup = record { transport = 2; unit = 1; broadcasts = 0 ∷ []; cells = wideCells; bytes = λ tab. 246; room = 260 }
+
+-- what a case says: of a frame what comes of it; of one over those tables the outcome, code and reply, the last nine coils and the last two
+-- holdings; or of some bytes their CRC
 pub data Case : Type 0 where
   frame : Exchange → Case
+  wide : List ℕ → ℕ → ℕ → List ℕ → List ℕ → List ℕ → Case
   check : List ℕ → ℕ → Case
+
+abbrev shownWide : List ℕ → Result → Case
+shownWide f r =
+    wide f (r .outcome) (r .exceptionCode) (r .reply) (part (r .after coils) 1959 9) (part (r .after holdings) 121 2)
 
 abbrev pub computed : Case → Case
 computed (frame e) = frame (exchanged e)
+computed (wide f o x r c h) = shownWide f (drive wideSetup zeros f)
 computed (check l v) = check l (crc l)
 
 -- from coils 00 00, where nothing changes

@@ -2,6 +2,7 @@ pub mod Demand
 pub mod Order
 pub mod Station
 pub mod Cases
+pub mod Requested
 pub mod Exchanges
 pub mod Impostors
 pub mod OnBytes

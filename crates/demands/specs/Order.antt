@@ -20,7 +20,7 @@ use Rattle.modbus.specs.declared.ModbusProto.the-variants.{Rtu, Ascii, TcpUdp}
 abbrev pub Shaped : ModbusProto → List ℕ → Type 0
 Shaped Rtu f = (4 ≤ length f) × (length f ≤ 256)
 Shaped Ascii f = (l : List ℕ) × Bytes l × (3 ≤ length l) × (length l ≤ 254) × (f ≡ line l)
-Shaped TcpUdp f = (12 ≤ length f) × (length f ≤ 256) × (getD f 2 0 ≡ 0) × (getD f 3 0 ≡ 0) × (wordAt f 4 + 6 ≡ length f)
+Shaped TcpUdp f = (8 ≤ length f) × (length f ≤ 260) × (getD f 2 0 ≡ 0) × (getD f 3 0 ≡ 0) × (wordAt f 4 + 6 ≡ length f)
 
 -- the frame holds this message, under a valid setup with reply room
 pub record Sent (s : Setup) (f : List ℕ) (m : Message) : Type 0 where

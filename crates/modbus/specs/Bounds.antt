@@ -87,10 +87,14 @@ counts =
     ∷ plain 0 (sent 0 (more 15 0 1 1)) 0 0
     ∷ plain 0 (sent 0 (more 15 0 1968 246)) 0 0
     ∷ plain 0 (sent 0 (more 15 0 1969 247)) 2 3
+    ∷ plain 2 (sent 2 (more 15 0 1968 246)) 0 0
+    ∷ plain 2 (sent 2 (more 15 0 1969 247)) 2 3
     ∷ plain 0 (sent 0 (more 16 0 0 0)) 2 3
     ∷ plain 0 (sent 0 (more 16 0 1 2)) 0 0
     ∷ plain 0 (sent 0 (more 16 0 123 246)) 0 0
     ∷ plain 0 (sent 0 (more 16 0 124 246)) 2 3
+    ∷ plain 2 (sent 2 (more 16 0 123 246)) 0 0
+    ∷ plain 2 (sent 2 (more 16 0 124 246)) 2 3
     ∷ []
 
 -- byte counts: count / 8 rounded up for 15, twice the count for 16; lengths to the byte
@@ -190,7 +194,7 @@ functionNumbers =
     ∷ plain 2 (sent 2 (six 255 0 1)) 8 0
     ∷ []
 
--- frame bounds: RTU 4 to 256 bytes, ASCII 6 to 508 digits, TCP 12 to 256 bytes with a length field of 6 to 250
+-- frame bounds: RTU 4 to 256 bytes, ASCII 6 to 508 digits, TCP 8 to 260 bytes with a length field of 2 to 254
 abbrev pub frameBounds : List Bound
 frameBounds =
     plain 0 (sent 0 (1 ∷ [])) 5 0
@@ -201,10 +205,11 @@ frameBounds =
     ∷ plain 1 (sent 1 (1 ∷ 7 ∷ [])) 2 1
     ∷ plain 1 (sent 1 (1 ∷ 7 ∷ replicate 251 0)) 2 1
     ∷ plain 1 (sent 1 (1 ∷ 7 ∷ replicate 252 0)) 5 0
-    ∷ plain 2 (sent 2 (1 ∷ 7 ∷ replicate 3 0)) 5 0
-    ∷ plain 2 (sent 2 (1 ∷ 7 ∷ replicate 4 0)) 2 1
-    ∷ plain 2 (sent 2 (1 ∷ 7 ∷ replicate 248 0)) 2 1
-    ∷ plain 2 (sent 2 (1 ∷ 7 ∷ replicate 249 0)) 5 0
+    ∷ plain 2 (sent 2 (1 ∷ [])) 5 0
+    ∷ plain 2 (sent 2 (1 ∷ 7 ∷ [])) 2 1
+    ∷ plain 2 (sent 2 (1 ∷ 3 ∷ [])) 7 0
+    ∷ plain 2 (sent 2 (1 ∷ 7 ∷ replicate 252 0)) 2 1
+    ∷ plain 2 (sent 2 (1 ∷ 7 ∷ replicate 253 0)) 5 0
     ∷ plain 2 (0 ∷ 0 ∷ 1 ∷ 0 ∷ 0 ∷ 6 ∷ six 3 0 1) 5 0
     ∷ plain 2 (0 ∷ 0 ∷ 0 ∷ 1 ∷ 0 ∷ 6 ∷ six 3 0 1) 5 0
     ∷ plain 2 (0 ∷ 0 ∷ 0 ∷ 0 ∷ 0 ∷ 7 ∷ six 3 0 1) 5 0

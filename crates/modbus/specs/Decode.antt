@@ -63,7 +63,7 @@ unwrap Ascii f = do
   need (same? (drop (length l - 1) l) (lrc (take (length l - 1) l) ∷ [])) frameCheck
   go (record { tag = []; body = take (length l - 1) l })
 unwrap TcpUdp f = do
-  need ((12 ≤? length f) and? (length f ≤? 256) and? (getD f 2 0 ≟ 0) and? (getD f 3 0 ≟ 0) and? (wordAt f 4 + 6 ≟ length f)) frameBroken
+  need ((8 ≤? length f) and? (length f ≤? 260) and? (getD f 2 0 ≟ 0) and? (getD f 3 0 ≟ 0) and? (wordAt f 4 + 6 ≟ length f)) frameBroken
   go (record { tag = take 2 f; body = drop 6 f })
 
 -- ---- a function that is ignored on a broadcast number

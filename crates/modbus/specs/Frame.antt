@@ -46,16 +46,16 @@ around Ascii n = 2 * n + 5
 around TcpUdp n = n + 6
 
 -- the frame bounds (document 01, "Shapes and checks of the driver"), as lengths of the body: RTU frames have 4 to 256 bytes, ASCII frames
--- 6 to 508 digits, TCP frames 12 to 256 bytes
+-- 6 to 508 digits, TCP frames 8 to 260 bytes (document 02, 2026-01; TCP 3.1.3)
 abbrev pub least : ModbusProto → ℕ
 least Rtu = 2
 least Ascii = 2
-least TcpUdp = 6
+least TcpUdp = 2
 
 abbrev pub most : ModbusProto → ℕ
 most Rtu = 254
 most Ascii = 253
-most TcpUdp = 250
+most TcpUdp = 254
 
 -- a frame is the whole of what the transport puts around a body of bytes within the bounds
 pub record Framed (proto : ModbusProto) (tag body frame : List ℕ) : Type 0 where

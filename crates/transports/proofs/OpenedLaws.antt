@@ -70,10 +70,10 @@ rtu-front f =
 
 -- the shape of a TCP frame
 abbrev Headed : List ℕ → Type 0
-Headed f = (12 ≤ length f) × ((length f ≤ 256) × ((getD f 2 0 ≡ 0) × ((getD f 3 0 ≡ 0) × (wordAt f 4 + 6 ≡ length f))))
+Headed f = (8 ≤ length f) × ((length f ≤ 260) × ((getD f 2 0 ≡ 0) × ((getD f 3 0 ≡ 0) × (wordAt f 4 + 6 ≡ length f))))
 
 abbrev pub headed? : (f : List ℕ) → Dec (Headed f)
-headed? f = (12 ≤? length f) and? (length f ≤? 256) and? (getD f 2 0 ≟ 0) and? (getD f 3 0 ≟ 0) and? (wordAt f 4 + 6 ≟ length f)
+headed? f = (8 ≤? length f) and? (length f ≤? 260) and? (getD f 2 0 ≟ 0) and? (getD f 3 0 ≟ 0) and? (wordAt f 4 + 6 ≟ length f)
 
 pub tcp-broken : (f : List ℕ) → ¬ Headed f → unwrap TcpUdp f ≡ stop frameBroken
 unfolding unwrap

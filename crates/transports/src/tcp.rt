@@ -11,10 +11,10 @@ ghost use Rattle.transports.specs.Sealed.{sealed};
 pub fn open_tcp(frame: &[u8]) -> usize
     ensures { λ r. ⌜ r ≡ opened (unwrap TcpUdp (now (frame .entry))) ⌝ }
 {
-    if frame.len() < 12 {
+    if frame.len() < 8 {
         return 0;
     }
-    if 256 < frame.len() {
+    if 260 < frame.len() {
         return 0;
     }
     if frame[2] != 0 {

@@ -4,7 +4,7 @@ use super::model::*;
 use super::record::*;
 use super::wire::word;
 use super::{chain, lenient, model};
-use crate::record::{ASCII, RTU};
+use crate::record::{ASCII, RTU, TCP};
 
 const UNKNOWN_SHAPE: &str = "unknown function, shape wrong";
 const UNKNOWN_CHECK: &str = "unknown function, check wrong";
@@ -12,6 +12,8 @@ const LONG_RTU: &str = "RTU frame above 256 bytes";
 const NO_COLON: &str = "ASCII line without its colon";
 const NO_CR_LF: &str = "ASCII line that does not end at CR LF";
 const LENGTH_FIELD: &str = "TCP length field that is not the frame's";
+const SHORT_TCP: &str = "TCP length 2 to 5";
+const LONG_TCP: &str = "TCP length 251 to 254";
 const AFTER_CHECK: &str = "bytes after the check";
 const AFTER_REQUEST: &str = "bytes after the request";
 const NO_DATA: &str = "value fault of a write without its data";
@@ -26,9 +28,9 @@ const OUTSIDE_BYTES: &str = "byte count wrong, and outside the table";
 
 /// Every way in which the crate differs, each to come up in a stream.
 #[rustfmt::skip]
-pub const WAYS: [&str; 17] = [
-    UNKNOWN_SHAPE, UNKNOWN_CHECK, LONG_RTU, NO_COLON, NO_CR_LF, LENGTH_FIELD, AFTER_CHECK, AFTER_REQUEST, NO_DATA,
-    READ_0, WRITE_0, OUTSIDE_0, MANY_COILS, FEW_COILS, OTHER_COUNT, ODD_BYTES, OUTSIDE_BYTES,
+pub const WAYS: [&str; 19] = [
+    UNKNOWN_SHAPE, UNKNOWN_CHECK, LONG_RTU, NO_COLON, NO_CR_LF, LENGTH_FIELD, SHORT_TCP, LONG_TCP, AFTER_CHECK,
+    AFTER_REQUEST, NO_DATA, READ_0, WRITE_0, OUTSIDE_0, MANY_COILS, FEW_COILS, OTHER_COUNT, ODD_BYTES, OUTSIDE_BYTES,
 ];
 
 /// The stages of the crate that panic, each to come up in a stream.
@@ -55,6 +57,9 @@ pub fn answer(call: &Call) -> Result<(Answer, Option<&'static str>), String> {
 fn way(call: &Call, outcome: u8, code: u8) -> Result<&'static str, String> {
     let none = || Err(format!("the crate differs where document 01 says outcome {outcome}, code {code}"));
     let frame = &call.frame;
+    if let Some(way) = beyond(call, outcome) {
+        return Ok(way);
+    }
     let body = lenient::seen(call).map_err(|_| "the crate differs on a frame it refuses")?;
     let (known, long) = (served(body[1]), body.len() > extent(&body));
     match (outcome, call.transport) {
@@ -63,12 +68,21 @@ fn way(call: &Call, outcome: u8, code: u8) -> Result<&'static str, String> {
         (FRAME_BROKEN, RTU) if frame.len() > 256 => Ok(LONG_RTU),
         (FRAME_BROKEN, ASCII) if frame[0] != b':' => Ok(NO_COLON),
         (FRAME_BROKEN, ASCII) if !ends_at_cr_lf(frame) => Ok(NO_CR_LF),
-        (FRAME_BROKEN, 2) if word(frame, 4) != frame.len() - 6 => Ok(LENGTH_FIELD),
+        (FRAME_BROKEN, TCP) if word(frame, 4) != frame.len() - 6 => Ok(LENGTH_FIELD),
         (FRAME_CHECK, RTU | ASCII) if long => Ok(AFTER_CHECK),
         (WRONG_LENGTH, _) if long => Ok(AFTER_REQUEST),
-        (WRONG_LENGTH, 2) if !long && body[1] > 6 => Ok(NO_DATA),
+        (WRONG_LENGTH, TCP) if !long && body[1] > 6 => Ok(NO_DATA),
         (EXCEPTION | BROADCAST_IGNORED, _) if code == 3 => value(call, &body).map_or_else(none, Ok),
         _ => none(),
+    }
+}
+
+/// The lengths of a TCP body that the driver takes and the crate does not.
+fn beyond(call: &Call, outcome: u8) -> Option<&'static str> {
+    match call.frame.len() {
+        8..=11 if call.transport == TCP && outcome != FRAME_BROKEN => Some(SHORT_TCP),
+        257..=260 if call.transport == TCP && outcome != FRAME_BROKEN => Some(LONG_TCP),
+        _ => None,
     }
 }
 

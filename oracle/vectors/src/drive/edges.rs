@@ -32,8 +32,9 @@ const LINES: [&str; 13] = [
     ":010300000002FA\r\n\r\n",
     ":010300000002FA00\r\n",
 ];
-const TCP_FRAMES: [&str; 17] = [
+const TCP_FRAMES: [&str; 18] = [
     "00000000",
+    "000000000002 0107",           // length 2
     "000000000006 0107",           // unknown function, shape wrong
     "000000000007 010100000001",   // length field that is not the frame's
     "000000000007 01010000000100", // bytes after the request
@@ -87,6 +88,7 @@ pub fn edges(seed: u64, put: &mut dyn FnMut(Call)) {
     LINES.iter().for_each(|f| send(0, ASCII, f.as_bytes().to_vec()));
     TCP_FRAMES.iter().for_each(|f| send(0, TCP, bytes(f)));
     send(0, RTU, [wrap(RTU, [0, 0], &bytes(BODIES[0])), vec![0; 249]].concat()); // above 256 bytes
+    send(0, TCP, [bytes("0000000000FB 0107"), vec![0; 249]].concat()); // length 251
     for transport in [RTU, ASCII, TCP] {
         BODIES.iter().for_each(|body| send(0, transport, wrap(transport, [0, 0], &bytes(body))));
     }

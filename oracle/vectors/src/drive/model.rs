@@ -82,7 +82,7 @@ fn unwrap(call: &Call) -> Result<Vec<u8>, u8> {
             Ok(body)
         }
         _ => {
-            let right = (12..=256).contains(&frame.len()) && word(frame, 2) == 0 && word(frame, 4) == frame.len() - 6;
+            let right = (8..=260).contains(&frame.len()) && word(frame, 2) == 0 && word(frame, 4) == frame.len() - 6;
             if right {
                 Ok(frame[6..].to_vec())
             } else {
