@@ -1,4 +1,3 @@
 pub mod FourLaws
-pub mod SignedTotal
 pub mod WithinLaws
 pub mod Unique

@@ -2,6 +2,7 @@
 use modbus::ByteAnswer;
 use modbus::ErrorKind;
 use octets::least;
+use std::num::wrapping_sub_u8;
 ghost use mathlib.Core.Path.{_≡_};
 ghost use Prim.Native.Nat.{_*_, _/_, _≤_};
 ghost use lib.ListN.{length, take, drop};
@@ -102,7 +103,8 @@ pub fn calc_crc16(frame: &[u8], data_length: u8) -> u16
     (c % 65536) as u16
 }
 
-// The LRC of the first `data_length` bytes of the frame; where it has fewer, FrameBroken.
+// The LRC of the first `data_length` bytes of the frame: a running byte, from which each is taken off, wrapping at 256. Where the frame
+// has fewer, FrameBroken.
 pub fn calc_lrc(frame: &[u8], data_length: u8) -> ByteAnswer
     ensures { λ r. ⌜ bytePaper r ≡ told (lrcWithin (now (frame .entry)) «data_length») ⌝ }
 {
@@ -110,11 +112,11 @@ pub fn calc_lrc(frame: &[u8], data_length: u8) -> ByteAnswer
     if frame.len() < n {
         return ByteAnswer::Refused(ErrorKind::FrameBroken);
     }
-    let mut lrc: i32 = 0;
+    let mut lrc: u8 = 0;
     for i in 0..n {
-        lrc -= frame[i] as i32;
+        lrc = wrapping_sub_u8(lrc, frame[i]);
     }
-    ByteAnswer::Value((lrc & 0xff) as u8)
+    ByteAnswer::Value(lrc)
 }
 
 // What a character 0-9 or A-F stands for.

@@ -1,5 +1,5 @@
--- Laws of the two checks: one turn of each loop that computes them, that a CRC keeps to 16 bits, and that the LRC is the one byte that
--- brings the sum to zero.
+-- Laws of the two checks: one turn of each loop that computes them, that a CRC keeps to 16 bits, that the LRC is the one byte that
+-- brings the sum to zero, and that a byte from which all are taken off, wrapping at 256, comes to it.
 -- Assumes nothing.
 use mathlib.Core.Path.{_≡_, sym, _∙_}
 use mathlib.Core.List.{List, [], _∷_, _++_}
@@ -94,3 +94,39 @@ lrc-zero l = omega (arith, sum-append l (lrc l ∷ []))
 pub lrc-only : (l : List ℕ) (b : ℕ) → b < 256 → sum (l ++ (b ∷ [])) % 256 ≡ 0 → b ≡ lrc l
 unfolding lrc sum
 lrc-only l b h e = omega (arith, sum-append l (b ∷ []))
+
+-- one byte more is taken off the running byte, whose wrapping difference is r
+carried : (s b r l : ℕ) → (r + b) % 256 ≡ l → (s + (l + 0)) % 256 ≡ 0 → (s + b + (r + 0)) % 256 ≡ 0
+carried s b r l e z = omega arith
+
+pub lrc-step : (s : List ℕ) (i r : ℕ) → i < length s → r < 256 → (r + getD s i 0) % 256 ≡ lrc (take i s) → r ≡ lrc (take (i + 1) s)
+unfolding sum
+lrc-step s i r h k e =
+    let l = lrc (take i s) in
+    let z = rw (sum-append (take i s) (l ∷ [])) at (lrc-zero (take i s)) in
+    lrc-only (take (i + 1) s) r k
+    (rw (sum-append (take (i + 1) s) (r ∷ []), sum-step s i h) (carried (sum (take i s)) (getD s i 0) r l e z))
+
+-- ... and all of them, one after the other: a running byte that begins at 0 ends as the LRC
+unfoldable pub running : ℕ → List ℕ → ℕ
+running r [] = r
+running r (b ∷ l) = running ((r + (256 - b)) % 256) l
+
+less : (r b : ℕ) → r < 256 → b < 256 → ((r + (256 - b)) % 256 + b) % 256 ≡ r
+less r b h k = omega arith
+
+more : (x b s q r : ℕ) → (x + s) % 256 ≡ q → (q + b) % 256 ≡ r → (x + (b + s)) % 256 ≡ r
+more x b s q r e d = omega arith
+
+runs : (l : List ℕ) (r : ℕ) → Bytes l → r < 256 → (running r l < 256) × ((running r l + sum l) % 256 ≡ r)
+unfolding running sum
+runs [] r y h = (h, omega arith)
+runs (b ∷ l) r y h =
+    let (k, e) = runs l ((r + (256 - b)) % 256) (y .1) (omega arith) in
+    (k, more _ b (sum l) _ r e (less r b h (y .0)))
+
+pub lrc-running : (l : List ℕ) → Bytes l → running 0 l ≡ lrc l
+unfolding sum
+lrc-running l y =
+    let (k, e) = runs l 0 y (omega arith) in
+    lrc-only l _ k (rw (sum-append l (running 0 l ∷ [])) (omega arith))

@@ -1,4 +1,4 @@
--- A line of seven bytes: its digits by place, and its bytes as a loop decodes them; and the LRC byte by byte.
+-- A line of seven bytes: its digits by place, and its bytes as a loop decodes them.
 -- Assumes nothing.
 use mathlib.Core.Logic.{by-cases}
 use mathlib.Core.Path.{_≡_, refl, ap, subst, _∙_}
@@ -11,9 +11,7 @@ use lib.ListN.{length, take, drop, getD, set, length-take, length-drop, drop-of-
 use lib.Seq.{sets, getD-take, getD-drop, take-set-le}
 use Rattle.modbus.specs.Step.{_≤?_}
 use Rattle.modbus.specs.Bytes.{All}
-use Rattle.modbus.specs.Check.{sum, lrc}
 use Rattle.modbus.proofs.BytesLaws.{all-by}
-use Rattle.modbus.proofs.CheckLaws.{sum-append, sum-step, lrc-zero, lrc-only}
 use Rattle.ascii.specs.Plain.{Digit, value, pairValues}
 use Rattle.ascii.proofs.PlainLaws.{or-none, digits-two, length-values, values-step}
 use Rattle.transports.specs.Lines.{Digits, ShortLine}
@@ -79,16 +77,3 @@ seven-step s raw i x y n v p q =
     (λ h.
     let w = seven-end s raw i (omega (arith, h)) v in
     rw (m, none-left s (k + 2) (omega (arith, h))) (tt, take-set-le 7 raw i _ (omega (arith, h)) ∙ w))
-
--- ---- the LRC of one byte more
-
-carried : (s b r l : ℕ) → (r + b) % 256 ≡ l → (s + (l + 0)) % 256 ≡ 0 → (s + b + (r + 0)) % 256 ≡ 0
-carried s b r l e z = omega arith
-
-pub lrc-step : (s : List ℕ) (i r : ℕ) → i < length s → r < 256 → (r + getD s i 0) % 256 ≡ lrc (take i s) → r ≡ lrc (take (i + 1) s)
-unfolding sum
-lrc-step s i r h k e =
-    let l = lrc (take i s) in
-    let z = rw (sum-append (take i s) (l ∷ [])) at (lrc-zero (take i s)) in
-    lrc-only (take (i + 1) s) r k
-    (rw (sum-append (take (i + 1) s) (r ∷ []), sum-step s i h) (carried (sum (take i s)) (getD s i 0) r l e z))

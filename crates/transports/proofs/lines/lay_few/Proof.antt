@@ -10,8 +10,8 @@ use lib.ListN.{length, take, length-set}
 use lib.Seq.{sets, take-all}
 use Rattle.modbus.specs.Check.{sum, lrc}
 use Rattle.modbus.specs.Hex.{digit, text}
+use Rattle.modbus.proofs.CheckLaws.{lrc-step}
 use Rattle.ascii.proofs.ReadingLaws.{rest, rest-step, rest-done}
-use Rattle.transports.proofs.LinesLaws.{lrc-step}
 use Rattle.transports.proofs.lines.lay_few.Statement.{statement}
 use Rattle.transports.proofs.lines.lay_few.Tie as tie
 
