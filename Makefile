@@ -1,5 +1,5 @@
 # The README's commands. `make test` is what .ci/run calls; its last line is rt ci's 'N passed, 0 failed'.
-.PHONY: help test proved prove beside frame-runs driver-runs targets host-runs package-runs peers lib measure serve install clean
+.PHONY: help test proved prove beside frame-runs driver-runs targets host-runs ask-runs package-runs peers lib measure serve ask install clean
 .NOTPARALLEL: # the runs use what rt ci has proved
 PREFIX ?= /usr/local
 
@@ -10,7 +10,7 @@ help:
 	    /^[a-z-]+:/ && said != "" { sub(":.*", ""); printf "  %-12s %s\n", $$0, said } { said = "" }' Makefile
 
 # everything; the verdict is said at the end, when the runs are through, and only then
-test: proved beside frame-runs driver-runs targets host-runs package-runs peers
+test: proved beside frame-runs driver-runs targets host-runs ask-runs peers package-runs
 	@tail -n 1 out/ci.log | grep -x '[0-9]* passed, 0 failed'
 
 # every crate proved from nothing, the must-fail edits refused, the programs run
@@ -41,11 +41,15 @@ targets:
 host-runs:
 	@bin/host-runs
 
+# the bench tool of host/ against that server, against others that reply with something else, and its command line
+ask-runs:
+	@bin/ask-runs
+
 # what is installed, the manual pages, the README's example and numbers, the first steps on a machine
 package-runs:
 	@bin/package-runs
 
-# the server and mbpoll, pymodbus and libmodbus, as far as their packages can be had
+# the server and mbpoll, pymodbus and libmodbus, and the bench tool and both as servers, as far as their packages can be had
 peers:
 	@bin/peers
 
@@ -62,7 +66,11 @@ measure:
 serve:
 	@bin/serve $(ARGS)
 
-# header, library, pkg-config file, server and manual pages under PREFIX (/usr/local; DESTDIR for packagers)
+# asks a Modbus unit (ARGS="--tcp 127.0.0.1:1502 --unit 1 read holdings 0 4"; ARGS=--help lists the options)
+ask:
+	@bin/ask $(ARGS)
+
+# header, library, pkg-config file, server, bench tool and manual pages under PREFIX (/usr/local; DESTDIR for packagers)
 install:
 	@bin/install $(PREFIX)
 

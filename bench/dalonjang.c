@@ -25,4 +25,29 @@ static inline size_t serve(const struct row *row, const struct line *request) {
 
 static uint16_t crc(const uint8_t *bytes, size_t n) { return probe_calc_crc16(bytes, n, (uint8_t)n); }
 
+#define ASKS
+static struct dalonjang_request to = {7, UNIT, 0};
+static _Alignas(PAGE) uint8_t built[MOST];
+static _Alignas(PAGE) uint16_t heard[2000], given[2000];
+static size_t built_len;
+
+static void ready(const struct row *row) {
+    to.proto = (uint8_t)row->kind;
+    for (size_t i = 0; i < row->count; i++) given[i] = value_of(row, i);
+}
+
+static inline size_t build(const struct row *row) {
+    uint8_t func = (uint8_t)row->function;
+    uint16_t reg = (uint16_t)row->start;
+    struct dalonjang_answer a = func <= 4
+        ? dalonjang_generate_get(to, func, reg, (uint16_t)row->count, built, sizeof built)
+        : dalonjang_generate_set(to, func, reg, given, row->count, built, sizeof built);
+    return built_len = a.value;
+}
+
+static inline size_t hear(const struct row *row, const struct line *reply) {
+    (void)row;
+    return dalonjang_parse_response(to.proto, built, built_len, reply->bytes, reply->len, heard, 2000).count;
+}
+
 #include "loop.h"

@@ -3,9 +3,14 @@
  *     serve(row, line)  one request; the reply's length
  *     reply()           where the last reply stands
  *     crc(bytes, n)     the server's CRC
+ * and, where ASKS is defined, of its asking side
+ *     ready(row)        what is asked is known; as a client keeps it
+ *     build(row)        one request; its length, at `built`
+ *     hear(row, reply)  that request's reply; how many values it shows, at `heard`
  *
- * Standard input has a line for each row: rtu, ascii, tcp or crc; ours, foreign, broadcast or spoilt; then function,
- * start, count and cells. A row's request is made once and its reply compared, with a write read back. Then it is made FEW times between two calls of
+ * Standard input has a line for each row: rtu, ascii, tcp, crc, offer or quiet; ours, foreign, broadcast, spoilt, built or
+ * heard; then function, start, count and cells. A row's request is made once and its reply compared, with a write read back.
+ * Then it is made FEW times between two calls of
  * bench_mark, and twice as often between two more: whoever counts instructions divides the difference by FEW. Where
  * the server has no such call, nothing is between the marks.
  * Status: 0 all was as it must be, 1 a wrong reply or CRC, 2 a line that is no row. */
@@ -80,6 +85,40 @@ static void measure_crc(const struct row *row) {
     make_checks(bytes, row->count, 2 * FEW);
 }
 
+#ifdef ASKS
+__attribute__((noinline)) static void make_requests(const struct row *row, int calls) {
+    bench_mark();
+    for (int i = 0; i < calls; i++) build(row);
+    bench_mark();
+}
+
+__attribute__((noinline)) static void make_readings(const struct row *row, const struct line *reply, int calls) {
+    bench_mark();
+    for (int i = 0; i < calls; i++) hear(row, reply);
+    bench_mark();
+}
+
+/* The frame is the right one, and so are the values of a right reply. */
+static void measure_asking(const struct row *row) {
+    static struct line wanted, answer;
+    wanted = request_of(row);
+    ready(row);
+    if (build(row) != wanted.len || memcmp(built, wanted.bytes, wanted.len) != 0) puts("a wrong request"), exit(1);
+    struct row served = *row;
+    served.how = OURS;
+    answer = reply_of(&served);
+    if (row->how == HEARD && hear(row, &answer) != row->count) puts("a reply is not read"), exit(1);
+    for (size_t i = 0; row->how == HEARD && i < row->count; i++)
+        if (heard[i] != value_of(row, i)) puts("a wrong value"), exit(1);
+    for (int calls = FEW; calls <= 2 * FEW; calls *= 2)
+        if (row->how == BUILT) make_requests(row, calls);
+        else make_readings(row, &answer, calls);
+}
+#else
+static void measure_nothing(void);
+static void measure_asking(const struct row *row) { (void)row, measure_nothing(); }
+#endif
+
 static int place_of(const char *word, const char *const words[], int many) {
     int n = 0;
     while (n < many && strcmp(word, words[n]) != 0) n++;
@@ -91,19 +130,22 @@ static void measure_nothing(void) {
 }
 
 int main(void) {
-    static const char *const kinds[] = {"rtu", "ascii", "tcp", "crc"};
-    static const char *const hows[] = {"ours", "foreign", "broadcast", "spoilt"};
+    static const char *const kinds[] = {"rtu", "ascii", "tcp", "crc", "offer", "quiet"};
+    static const char *const hows[] = {"ours", "foreign", "broadcast", "spoilt", "built", "heard"};
     _Alignas(PAGE) char kind[8]; /* so the stack is at the same place in a page whatever the environment */
     char how[16];
     struct row row = {0};
     int n;
     while ((n = scanf("%7s %15s %zu %zu %zu %zu", kind, how, &row.function, &row.start, &row.count, &row.cells)) == 6) {
-        row.kind = place_of(kind, kinds, CRC + 1);
-        row.how = place_of(how, hows, SPOILT + 1);
-        if (row.kind > CRC || row.how > SPOILT || row.count > 2000 || (row.kind == CRC && row.count > 255)) return 2;
+        row.kind = place_of(kind, kinds, QUIET + 1);
+        row.how = place_of(how, hows, HEARD + 1);
+        if (row.kind > QUIET || row.how > HEARD || row.count > 2000 || (row.kind == CRC && row.count > 255)) return 2;
+        if (row.kind == OFFER && row.count > 256 / (2 * FEW)) return 2;
         row.turn++;
         if (!start(&row)) {
             measure_nothing();
+        } else if (row.how >= BUILT) {
+            measure_asking(&row);
         } else if (row.kind == CRC) {
             measure_crc(&row);
         } else {

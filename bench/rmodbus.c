@@ -1,4 +1,4 @@
-/* The crate rmodbus under measure; rmodbus.rs is its chain behind these four functions. */
+/* The crate rmodbus under measure; rmodbus.rs is its chain and its client behind these functions. */
 #include "rows.h"
 
 struct crate;
@@ -23,5 +23,29 @@ static inline size_t serve(const struct row *row, const struct line *request) {
 }
 
 static uint16_t crc(const uint8_t *bytes, size_t n) { return crate_crc(bytes, n); }
+
+#define ASKS
+size_t crate_build(struct crate *crate, int transport, const uint16_t *values, size_t function, size_t start, size_t n);
+size_t crate_hear(struct crate *crate, int transport, const uint8_t *frame, size_t len);
+const uint8_t *crate_built(const struct crate *crate, int transport);
+const uint16_t *crate_heard(const struct crate *crate);
+
+static const uint8_t *built;
+static const uint16_t *heard;
+static uint16_t given[2000];
+
+static void ready(const struct row *row) {
+    for (size_t i = 0; i < row->count; i++) given[i] = value_of(row, i);
+    built = crate_built(server, row->kind);
+    heard = crate_heard(server);
+}
+
+static inline size_t build(const struct row *row) {
+    return crate_build(server, row->kind, given, row->function, row->start, row->count);
+}
+
+static inline size_t hear(const struct row *row, const struct line *reply) {
+    return crate_hear(server, row->kind, reply->bytes, reply->len);
+}
 
 #include "loop.h"

@@ -9,6 +9,11 @@ static unsigned word_at(const struct row *row, size_t i) {
     return (unsigned)((row->start + i) * 40503u + row->turn * 259u) & 0xFFFF;
 }
 
+uint16_t value_of(const struct row *row, size_t i) {
+    int bits = row->function == 1 || row->function == 5 || row->function == 15;
+    return (uint16_t)(bits ? bit_at(row, i) : word_at(row, i));
+}
+
 static size_t put_word(uint8_t *at, size_t value) {
     at[0] = (uint8_t)(value >> 8);
     at[1] = (uint8_t)value;

@@ -6,7 +6,8 @@
 
 enum { RTU, ASCII, TCP, CRC }; /* the numbers of include/dalonjang.h; and the check alone, of `count` bytes */
 enum { UNIT = 1, OTHER_UNIT = 2, EVERYONE = 0, MOST = 520 };
-enum { OURS, FOREIGN, BROADCAST, SPOILT }; /* to our unit; to another; to all; to ours, with a wrong check */
+/* To our unit; to another; to all; to ours, with a wrong check; built by the asking side, its reply read there. */
+enum { OURS, FOREIGN, BROADCAST, SPOILT, BUILT, HEARD };
 enum { PAGE = 4096 }; /* tables and buffers start at a page: the cost of a copy depends on where it starts */
 
 struct row {
@@ -27,6 +28,9 @@ struct line request_of(const struct row *row);
 /* What must come back when the cells have these values, or the exception if there are none or they are not all in the
  * table; nothing, unless it is to our unit and whole. */
 struct line reply_of(const struct row *row);
+
+/* What the row's cell i holds in this turn, 0 or 1 for a coil. */
+uint16_t value_of(const struct row *row, size_t i);
 
 uint16_t plain_crc(const uint8_t *bytes, size_t n);
 #endif

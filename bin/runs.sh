@@ -144,27 +144,49 @@ link_server() {
     machine_cc -o "out/$1" "${@:2}" $LIB -lsqlite3
 }
 
-# build_server: out/server, the server of host/
-build_server() {
-    local file
-    mkdir -p out/host
-    for file in host/*.c; do machine_cc -c -o "out/$file.o" "$file"; done
-    link_server server out/host/*.o
+# link_tool NAME FILE..: out/NAME, the bench tool of these, likewise
+link_tool() {
+    # shellcheck disable=SC2086
+    machine_cc -o "out/$1" "${@:2}" $LIB
 }
 
-# wrong_server NAME FILE OLD NEW: out/NAME, the server with one place in FILE of host/ changed, after build_server
-wrong_server() {
-    local text objects=(out/host/*.o) room=out/wrong-host/$1
-    text=$(<"host/$2")
-    [[ $text == *"$3"* ]] || fail "host/$2 has no '$3' that could be changed"
+# Of host/ the files of the server and those of the bench tool, which has its own and shares the serial lines.
+server_parts() { (cd host && ls ./*.c) | sed 's/^..//; /^ask/d'; }
+tool_parts() { (cd host && echo ask*.c serial.c); }
+
+# build_server: out/server, the server of host/; build_tool: out/ask, the bench tool
+# shellcheck disable=SC2046
+build_server() { build_program link_server server $(server_parts); }
+# shellcheck disable=SC2046
+build_tool() { build_program link_tool ask $(tool_parts); }
+build_program() {
+    local part made=()
+    mkdir -p out/host
+    for part in "${@:3}"; do
+        machine_cc -c -o "out/host/$part.o" "host/$part"
+        made+=("out/host/$part.o")
+    done
+    "$1" "$2" "${made[@]}"
+}
+
+# wrong_server NAME FILE OLD NEW, wrong_tool NAME FILE OLD NEW: out/NAME, the server or the bench tool with one place in
+# FILE of host/ changed, after it was built
+# shellcheck disable=SC2046
+wrong_server() { wrong_program link_server "$1" "$2" "$3" "$4" $(server_parts); }
+# shellcheck disable=SC2046
+wrong_tool() { wrong_program link_tool "$1" "$2" "$3" "$4" $(tool_parts); }
+wrong_program() {
+    local text part from=() room=out/wrong-host/$2
+    text=$(<"host/$3")
+    [[ $text == *"$4"* ]] || fail "host/$3 has no '$4' that could be changed"
     rm -rf "$room"
     mkdir -p "$room"
     cp host/* "$room"
-    printf '%s\n' "${text%%"$3"*}$4${text#*"$3"}" >"$room/$2"
-    case $2 in
-    *.c) link_server "$1" "${objects[@]/#out\/host\/$2.o/$room/$2}" ;;
-    *) link_server "$1" "$room"/*.c ;;
-    esac
+    printf '%s\n' "${text%%"$4"*}$5${text#*"$4"}" >"$room/$3"
+    for part in "${@:6}"; do
+        if [[ $3 == *.h || $part == "$3" ]]; then from+=("$room/$part"); else from+=("out/host/$part.o"); fi
+    done
+    "$1" "$2" "${from[@]}"
 }
 
 # saw STATUS LOG WHO WHAT: a test sees a wrong server when it says what is wrong and ends with 1; both are counted, and

@@ -111,11 +111,15 @@ grown() {
 
 # What the header says of the stack: the figures, in steps of 50 bytes.
 header_says() {
+    most_of dalonjang_drive 'dalonjang_drive takes the most'
+    most_of dalonjang_generate_set 'of those that ask dalonjang_generate_set'
+}
+most_of() {
     local target said=''
     for target in cortex-m0 cortex-m3 cortex-m4 armv7 x86_64 aarch64; do
-        said="$said, $((($(figure $target stack dalonjang_drive) + 49) / 50 * 50))${said:+ on $target}"
+        said="$said, $((($(figure $target stack "$1") + 49) / 50 * 50))${said:+ on $target}"
         [[ $said == *" on "* ]] || said="$said bytes on $target"
     done
-    said="dalonjang_drive takes the most: up to ${said#, };"
+    said="$2: up to ${said#, };"
     sed 's/^ \* *//' include/dalonjang.h | tr '\n' ' ' | grep -qF "$said" || fail "include/dalonjang.h should say: $said"
 }

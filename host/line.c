@@ -1,15 +1,9 @@
 #include "line.h"
 #include "basics.h"
-#include <fcntl.h>
-#include <linux/serial.h>
-#include <sys/ioctl.h>
-#include <sys/stat.h>
-#include <sys/sysmacros.h>
-#include <termios.h>
+#include "serial.h"
 
 enum {
     RTU_LEAST = 4, RTU_MOST = 256,
-    BURSTS = 50,          /* adapters on USB hand over what came every 16 ms, and may come late */
     ASCII_SILENCE = 1000, /* SER 2.5.2.1: up to a second may pass between two characters */
     PATIENCE = 1000,      /* how long a line may take to send anything of a reply */
     RETRY = 500,          /* after which a lost line is tried again */
@@ -18,75 +12,22 @@ enum {
 
 /* --- opening ------------------------------------------------------------------------------------------------------ */
 
-unsigned line_speed(size_t baud) {
-    static const struct { unsigned baud, speed; } known[] = {{1200, B1200}, {2400, B2400}, {4800, B4800}, {9600, B9600},
-        {19200, B19200}, {38400, B38400}, {57600, B57600}, {115200, B115200}, {230400, B230400}, {460800, B460800},
-        {500000, B500000}, {576000, B576000}, {921600, B921600}, {1000000, B1000000}, {1152000, B1152000},
-        {1500000, B1500000}, {2000000, B2000000}, {2500000, B2500000}, {3000000, B3000000}, {3500000, B3500000},
-        {4000000, B4000000}};
-    for (size_t i = 0; i < sizeof known / sizeof known[0]; i++)
-        if (known[i].baud == baud) return known[i].speed;
-    return 0;
-}
-
-static int is_pseudo(int fd) {
-    struct stat is;
-    return fstat(fd, &is) == 0 && S_ISCHR(is.st_mode) && major(is.st_rdev) >= 136 && major(is.st_rdev) <= 143;
-}
-
-/* Bytes as they come, at this speed; mode as 8E1. A pseudo terminal, which has neither parity nor seven bits, is not
- * asked for them: the C library would call it an error. */
-static int set_up(int fd, size_t baud, const char *mode) {
-    struct termios t;
-    if (tcgetattr(fd, &t) != 0) return 0;
-    if (is_pseudo(fd)) mode = mode[2] == '2' ? "8N2" : "8N1";
-    cfmakeraw(&t);
-    t.c_cflag &= ~(tcflag_t)(CSIZE | PARENB | PARODD | CSTOPB);
-    t.c_cflag |= CLOCAL | CREAD | (mode[0] == '7' ? CS7 : CS8) | (mode[2] == '2' ? CSTOPB : 0);
-    if (mode[1] != 'N') {
-        t.c_cflag |= PARENB | (mode[1] == 'O' ? PARODD : 0);
-        t.c_iflag |= INPCK | IGNPAR; /* a byte of wrong parity is left out, and the frame fails its check */
-    }
-    t.c_cc[VMIN] = 1;
-    t.c_cc[VTIME] = 0;
-    cfsetispeed(&t, line_speed(baud));
-    cfsetospeed(&t, line_speed(baud));
-    return tcsetattr(fd, TCSANOW, &t) == 0 && tcflush(fd, TCIFLUSH) == 0;
-}
-
-/* The driver raises RTS while it sends, and does not hear itself; its delays stay as they are. */
-static int set_direction(int fd) {
-    struct serial_rs485 rs485;
-    if (ioctl(fd, TIOCGRS485, &rs485) != 0) return 0;
-    rs485.flags |= SER_RS485_ENABLED | SER_RS485_RTS_ON_SEND;
-    rs485.flags &= ~(SER_RS485_RTS_AFTER_SEND | SER_RS485_RX_DURING_TX);
-    return ioctl(fd, TIOCSRS485, &rs485) == 0;
-}
-
 /* Answers what is wrong, or NULL. */
 static const char *start(struct line *l) {
-    const char *wrong = NULL;
-    l->fd = open(l->device, O_RDWR | O_NOCTTY | O_NONBLOCK | O_CLOEXEC);
-    if (l->fd < 0 || !set_up(l->fd, l->baud, l->mode)) wrong = strerror(errno);
-    else if (l->rs485 && !set_direction(l->fd)) wrong = "its driver does not switch the direction (--rs485)";
-    if (wrong == NULL) return NULL;
-    if (l->fd >= 0) close(l->fd);
-    l->fd = -1;
+    const char *wrong;
+    l->fd = serial_open(l->device, l->baud, l->mode, l->rs485, &wrong);
     return wrong;
 }
-
-/* SER 2.5.1.1: 3.5 characters of 11 bits, and 1.75 ms above 19200 baud; in whole milliseconds, rounded up. */
-static int64_t characters(size_t baud) { return baud > 19200 ? 2 : (int64_t)((38500 + baud - 1) / baud); }
 
 int line_open(struct line *l, const struct options *o, size_t which) {
     int rtu = o->line[which].transport == DALONJANG_RTU;
     memset(l, 0, sizeof *l);
     l->transport = o->line[which].transport;
     l->device = o->line[which].device;
-    l->mode = o->mode != NULL ? o->mode : rtu ? "8E1" : "7E1";
+    l->mode = o->mode != NULL ? o->mode : serial_mode(l->transport);
     l->baud = o->baud;
     l->rs485 = o->rs485;
-    l->pause = !rtu ? ASCII_SILENCE : o->silence > 0 ? (int64_t)o->silence : characters(o->baud);
+    l->pause = !rtu ? ASCII_SILENCE : o->silence > 0 ? (int64_t)o->silence : serial_characters(o->baud);
     l->silence = !rtu || o->silence > 0 || l->pause > BURSTS ? l->pause : BURSTS;
     snprintf(l->name, sizeof l->name, "%s %s", rtu ? "rtu" : "ascii", l->device);
     const char *wrong = start(l);

@@ -24,9 +24,6 @@ struct line {
     struct outbox out;
 };
 
-/* The termios speed for so many baud; 0 where there is none. */
-unsigned line_speed(size_t baud);
-
 /* Answers 0 after a line on standard error. */
 int line_open(struct line *l, const struct options *o, size_t which);
 struct pollfd line_wants(const struct line *l);

@@ -1,7 +1,7 @@
 #include "options.h"
 #include "basics.h"
 #include "dalonjang.h"
-#include "line.h"
+#include "serial.h"
 
 /* An option that takes a number has its limits and its place here; every other has a function of its own. */
 struct option {
@@ -52,12 +52,11 @@ static int set_rtu(struct options *o, const char *value) { return add_line(o, va
 static int set_ascii(struct options *o, const char *value) { return add_line(o, value, DALONJANG_ASCII); }
 
 static int set_baud(struct options *o, const char *value) {
-    return number(value, 1, 4000000, &o->baud) && line_speed(o->baud) != 0;
+    return number(value, 1, 4000000, &o->baud) && serial_speed(o->baud) != 0;
 }
 
 static int set_mode(struct options *o, const char *value) {
-    o->mode = value;
-    return strlen(value) == 3 && strchr("78", value[0]) && strchr("NEO", value[1]) && strchr("12", value[2]);
+    return serial_is_mode(o->mode = value);
 }
 
 static int set_image(struct options *o, const char *value) { return (o->image = value)[0] != 0; }

@@ -49,8 +49,10 @@ static void hint(struct station *s, const char *from, uint8_t asked) {
         s->unit.setup.unit, asked, memchr(s->unit.list, asked, s->unit.list_len) ? " --broadcast none" : "");
 }
 
-struct dalonjang_result station_serve(struct station *s, const char *from, uint8_t transport, const uint8_t *frame,
-    size_t len, uint8_t *reply, size_t room) {
+/* What a frame leaves behind besides its reply: counts, cells to be saved, a hint, a line in the log. */
+static struct dalonjang_result noted(struct station *s, const char *from, const uint8_t *frame, size_t len,
+    uint8_t *reply, struct dalonjang_result r) {
+    uint8_t transport = s->unit.setup.transport;
     struct written written = {0, 0, 0};
     s->unit.setup.transport = transport;
     struct dalonjang_result r = dalonjang_serve(&s->unit, frame, len, reply, room);

@@ -1,19 +1,21 @@
 /* Dalonjang: a proved Modbus server for firmware in C or C++. Link with libdalonjang.a (`make lib TARGET=..`).
  *
  * One call takes one whole request frame as it came over the line, serves it on four tables that you lend, and writes
- * the reply frame into a buffer that you lend. Four more calls help to collect a frame byte by byte and to turn bytes
- * into Modbus ASCII text and back.
+ * the reply frame into a buffer that you lend. Two more calls collect an RTU frame from bytes as the UART brings them,
+ * and serve it when the line is quiet. Four more help to find where a frame ends, and turn bytes into Modbus ASCII text
+ * and back. Three are for whoever asks: they build requests and read the replies.
  *
  * Slices. Every buffer is a pointer, then its length in bytes. A NULL with length 0 is an empty slice. A pointer need
- *   only be good for exactly that many bytes: nothing is read or written before or after them, and nothing needs to be
- *   aligned. A slice that is `const` here is only read.
+ *   only be good for exactly that many bytes: nothing is read or written before or after them, and bytes need not be
+ *   aligned; 16-bit values stand as uint16_t does. A slice that is `const` here is only read.
  * Overlap. In one call no lent buffer may overlap another. In particular the reply must not be written over the frame.
  *   The calls cannot see an overlap and do not refuse it.
  * State. There is none: no allocation, no static data, no input or output. Every call is reentrant and may run in any
  *   thread or interrupt, as long as nobody else uses the lent buffers meanwhile.
- * Stack. Leave 1 KiB for a call. dalonjang_drive takes the most: up to 850 bytes on cortex-m0, 800 on cortex-m3, 800 on
- *   cortex-m4, 800 on armv7, 750 on x86_64, 700 on aarch64; arguments that lie on the stack (at most 104) come on top.
- *   No recursion.
+ * Stack. Leave 1 KiB for a call, and 2 for one that asks. dalonjang_drive takes the most: up to 850 bytes on cortex-m0,
+ *   800 on cortex-m3, 800 on cortex-m4, 750 on armv7, 750 on x86_64, 700 on aarch64; of those that ask
+ *   dalonjang_generate_set: up to 1600 bytes on cortex-m0, 1500 on cortex-m3, 1500 on cortex-m4, 1250 on armv7, 1300 on
+ *   x86_64, 1200 on aarch64; arguments that lie on the stack (at most 104) come on top. No recursion.
  * Interrupts. A call may be interrupted, and may be made in an interrupt that keeps what any C function may change. On
  *   a Cortex-M the processor does that by itself: no register of a floating point unit is touched. On x86-64 and ARM
  *   with Linux the vector registers are used, and on x86-64 the 128 bytes below the stack pointer (the red zone).
@@ -79,7 +81,9 @@ enum dalonjang_outcome {
     DALONJANG_WRONG_LENGTH = 7,      /* the length does not fit the function */
     DALONJANG_BAD_FUNCTION = 8,      /* function 128 to 255: no request */
     DALONJANG_NO_ROOM = 9,           /* the lent reply buffer is under 260 bytes, or 511 for ASCII */
-    DALONJANG_BAD_SETUP = 10         /* transport above 2, more than 65,536 cells, or a table too short for its cells */
+    DALONJANG_BAD_SETUP = 10,        /* transport above 2, more than 65,536 cells, or a table too short for its cells */
+    DALONJANG_BAD_REQUEST = 11,      /* dalonjang_parse_response alone: what was sent is no request */
+    DALONJANG_NOT_MY_REPLY = 12      /* dalonjang_parse_response alone: no reply to this request */
 };
 
 /* The code of an exception, as the Modbus document numbers them. */
@@ -155,10 +159,12 @@ static inline struct dalonjang_result dalonjang_serve(const struct dalonjang_uni
         frame, frame_len, reply, reply_len);
 }
 
-/* How the four calls below answer. Document 01 numbers more kinds; these calls give no others. */
+/* How the calls below answer. Document 01 numbers more kinds; these calls give no others. */
 enum dalonjang_kind {
     DALONJANG_KIND_VALUE = 0,        /* value holds */
+    DALONJANG_KIND_NO_ROOM = 9,      /* the lent buffer is shorter than the frame */
     DALONJANG_KIND_BAD_SETUP = 10,   /* transport above 2 */
+    DALONJANG_KIND_BAD_REQUEST = 11, /* nothing that may be asked */
     DALONJANG_KIND_OOB = 21,         /* more bytes are needed, or there is no room for them */
     DALONJANG_KIND_FRAME_BROKEN = 23 /* not the beginning of a frame, or not a digit */
 };
@@ -210,6 +216,72 @@ struct dalonjang_answer dalonjang_parse_ascii_frame(const uint8_t *data, size_t 
  * OOB            result is shorter than that; it is filled with as much of the line as it holds. */
 struct dalonjang_answer dalonjang_generate_ascii_frame(const uint8_t *data, size_t data_len,
     uint8_t *result, size_t result_len);
+
+/* The asking side. A request is built into a buffer that you lend, and its reply is read against that very frame: keep
+ * it until the reply has come. Values are 16-bit numbers, one a cell, a coil 0 or 1.
+ *
+ * Example: holdings 0 to 3 of unit 1 over TCP.
+ *
+ *     struct dalonjang_request to = {.tr_id = 7, .unit_id = 1, .proto = DALONJANG_TCP};
+ *     uint8_t asked[DALONJANG_REPLY_ROOM];
+ *     uint16_t values[4];
+ *     struct dalonjang_answer a = dalonjang_generate_get(to, 3, 0, 4, asked, sizeof asked);
+ *     if (a.kind == DALONJANG_KIND_VALUE) send(asked, a.value);
+ *     // and when n bytes have come back in reply:
+ *     struct dalonjang_reading r = dalonjang_parse_response(to.proto, asked, a.value, reply, n, values, 4);
+ *     if (r.outcome == DALONJANG_ANSWERED) use(values, r.count);
+ */
+
+/* Whom to ask, and how. Every unit number may be asked; from a broadcast number no reply comes. */
+struct dalonjang_request {
+    uint16_t tr_id;  /* the transaction number, on TCP alone */
+    uint8_t unit_id; /* the unit that is asked */
+    uint8_t proto;   /* enum dalonjang_transport */
+};
+
+/* Builds a request that reads.
+ *
+ * func           1 coils, 2 discretes, 3 holdings, 4 inputs.
+ * reg, count     the first cell, and how many: 1 to 2000 for 1 and 2, 1 to 125 for 3 and 4.
+ * request        where the frame goes. VALUE is its length, and the bytes behind it are as lent.
+ * BAD_REQUEST    proto above 2, another function, a count outside its limits, or a cell beyond 65,535.
+ * NO_ROOM        request is shorter than this frame: 8 bytes on RTU, 17 on ASCII, 12 on TCP.
+ * A refusal leaves all of request as lent. */
+struct dalonjang_answer dalonjang_generate_get(struct dalonjang_request to, uint8_t func, uint16_t reg, uint16_t count,
+    uint8_t *request, size_t request_len);
+
+/* The same for a request that writes.
+ *
+ * func           5 one coil, 6 one holding, 15 coils, 16 holdings.
+ * values, count  one value for 5 and 6; 1 to 1968 for 15 and 1 to 123 for 16. A coil's value above 1 is BAD_REQUEST.
+ * The longest frames, of 15 and 16: 255 bytes on RTU, 511 on ASCII, 259 on TCP. Pad bits are zero. */
+struct dalonjang_answer dalonjang_generate_set(struct dalonjang_request to, uint8_t func, uint16_t reg,
+    const uint16_t *values, size_t count, uint8_t *request, size_t request_len);
+
+/* What a reply says. */
+struct dalonjang_reading {
+    size_t count;    /* how many values were read; 0 after a write, and with every other outcome than 0 */
+    uint8_t outcome; /* enum dalonjang_outcome: 0 ANSWERED, 2 EXCEPTION, or a refusal */
+    uint8_t code;    /* the exception's code, 1 to 255; else 0 */
+};
+
+/* Reads a reply against the request's own frame.
+ *
+ * proto          enum dalonjang_transport.
+ * request        the frame as it was sent.
+ * response       the reply's frame, whole and as it came.
+ * values         room for the values, which go to its front; a write needs none.
+ * ANSWERED       the reply is of this transaction and unit and answers this request: `count` values are the cells'
+ *                contents as the server sent them. After a write: its echo came, and count is 0.
+ * EXCEPTION      the unit refused this request, with `code`.
+ * The first of these decides, and nothing is written:
+ * BAD_REQUEST    proto above 2, or `request` is no frame of a request that dalonjang_generate_.. builds.
+ * NO_ROOM        values_len is below the count asked for, whatever the reply is.
+ * FRAME_BROKEN, FRAME_CHECK
+ *                the reply is no frame of this transport, or its CRC or LRC is wrong.
+ * NOT_MY_REPLY   another transaction, unit, function, byte count, length or echo, or an exception with code 0. */
+struct dalonjang_reading dalonjang_parse_response(uint8_t proto, const uint8_t *request, size_t request_len,
+    const uint8_t *response, size_t response_len, uint16_t *values, size_t values_len);
 
 #ifdef __cplusplus
 }

@@ -24,6 +24,12 @@ struct asked {
 /* Document 01's driver, written plainly (model.c). */
 struct dalonjang_result model_drive(const struct asked *a);
 uint16_t model_crc(const uint8_t *bytes, size_t n);
+/* A frame's bytes from the unit on, without check, go to `body`. Answers 0 where the frame is right, else the outcome. */
+int model_unwrap(uint8_t transport, const uint8_t *frame, size_t len, uint8_t *body, size_t *n);
+/* Puts header and check around a body; answers the frame's length. The tag is TCP's transaction number. */
+size_t model_wrap(uint8_t transport, const uint8_t *tag, const uint8_t *body, size_t n, uint8_t *frame);
+/* Whether count, byte count or coil value of a request of the right length are within their limits. */
+int model_value_right(const uint8_t *body);
 
 static inline size_t word(const uint8_t *bytes) { return (size_t)bytes[0] << 8 | bytes[1]; }
 

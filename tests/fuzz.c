@@ -5,6 +5,7 @@
  *   - that outcome, code, reply and tables are those of the model, document 01's driver written plainly.
  * Status: 0 all right and, from 100,000 calls on, every outcome came up; 1 a difference; 2 wrong arguments. */
 #include "asked.h"
+#include "chance.h"
 #include "fence.h"
 
 enum { LIST = TABLES, FRAME, REPLY, BUFFERS, OUTCOMES = 11 };
@@ -18,25 +19,10 @@ static uint8_t *room[BUFFERS], before[BUFFERS][ROOM], expected[BUFFERS][ROOM];
 static uint8_t body[600]; /* the request from the unit byte on, before the check is made */
 static size_t body_len;
 static unsigned long number, seed = 1;
-static uint64_t chance_state;
 
 static struct slice *buffer(struct asked *a, int i) {
     return i < TABLES ? &a->table[i] : i == LIST ? &a->list : i == FRAME ? &a->frame : &a->reply;
 }
-
-/* --- chance --------------------------------------------------------------------------------------------------- */
-
-static uint64_t chance(void) { /* splitmix64 */
-    uint64_t z = chance_state += 0x9E3779B97F4A7C15u;
-    z = (z ^ z >> 30) * 0xBF58476D1CE4E5B9u;
-    z = (z ^ z >> 27) * 0x94D049BB133111EBu;
-    return z ^ z >> 31;
-}
-
-static size_t below(size_t n) { return (size_t)(chance() % n); }
-static int percent(size_t n) { return below(100) < n; }
-static size_t near(size_t n, size_t reach) { size_t x = n + below(2 * reach + 1); return x < reach ? 0 : x - reach; }
-#define PICK(...) ((const size_t[]){__VA_ARGS__}[below(sizeof((const size_t[]){__VA_ARGS__}) / sizeof(size_t))])
 
 /* A lent buffer of so many bytes, in its room, of random content. */
 static void lend(int which, size_t len) {
@@ -47,10 +33,7 @@ static void lend(int which, size_t len) {
         memset(s->bytes, even, len);
         return;
     }
-    for (size_t i = 0; i < len; i += 8) {
-        uint64_t eight = chance();
-        memcpy(s->bytes + i, &eight, len - i < 8 ? len - i : 8);
-    }
+    random_bytes(s->bytes, len);
 }
 
 /* --- setups --------------------------------------------------------------------------------------------------- */
@@ -110,42 +93,11 @@ static void random_body(void) {
     for (size_t i = 0; i < bytes; i++) body[body_len++] = (uint8_t)chance();
 }
 
-/* Body or frame cut, lengthened, or one bit turned. */
-static void damage(uint8_t *bytes, size_t *len) {
-    switch (below(4)) {
-    case 0: *len = below(*len + 1); break;
-    case 1: for (size_t more = 1 + below(4); more-- > 0;) bytes[(*len)++] = (uint8_t)chance(); break;
-    case 2: *len += *len % 2 + (percent(20) ? below(250) : 0); break; /* whatever stands there */
-    default: if (*len > 0) bytes[below(*len)] ^= (uint8_t)(1 << below(8)); break;
-    }
-}
-
 /* The body as a frame of the transport; answers its length. */
 static size_t sent(uint8_t *f) {
-    static const char digits[] = "0123456789ABCDEF";
-    uint8_t sum = 0;
-    size_t n = 0;
-    switch (call.transport) {
-    case DALONJANG_ASCII:
-        f[n++] = ':';
-        for (size_t i = 0; i <= body_len; i++) {
-            uint8_t byte = i < body_len ? body[i] : (uint8_t)-sum;
-            sum = (uint8_t)(sum + byte);
-            f[n++] = (uint8_t)digits[byte >> 4], f[n++] = (uint8_t)digits[byte & 15];
-        }
-        f[n++] = '\r', f[n++] = '\n';
-        return n;
-    case DALONJANG_TCP:
-        f[0] = (uint8_t)chance(), f[1] = (uint8_t)chance(), f[2] = f[3] = 0;
-        f[4] = (uint8_t)(body_len >> 8), f[5] = (uint8_t)body_len;
-        memcpy(f + 6, body, body_len);
-        return body_len + 6;
-    default:
-        memcpy(f, body, body_len);
-        uint16_t crc = model_crc(body, body_len);
-        f[body_len] = (uint8_t)crc, f[body_len + 1] = (uint8_t)(crc >> 8);
-        return body_len + 2;
-    }
+    uint8_t tag[2] = {0};
+    for (int i = 0; call.transport == DALONJANG_TCP && i < 2; i++) tag[i] = (uint8_t)chance();
+    return model_wrap(call.transport, tag, body, body_len, f);
 }
 
 static void random_frame(void) {

@@ -19,7 +19,7 @@ def test_log(program):
         (asked(3, 999, 2), "Exception 2, reply ", b"\1\x83\2"),
         (asked(5, 1, 0, unit=0), "BroadcastDone, wrote coils 1", b""),
         (asked(3, 1, 1, unit=0), "BroadcastIgnored", b""), (asked(5, 1, 1, unit=0), "BroadcastIgnored 3", b""),
-        (asked(6, 1, 1, unit=2), "Foreign", b""), (READ[:4], "FrameBroken", b""), (READ + b"\0", "WrongLength", b""),
+        (asked(6, 1, 1, unit=2), "Foreign", b""), (READ[:4], "WrongLength", b""), (READ + b"\0", "WrongLength", b""),
         (b"\1\x80" + READ[2:], "BadFunction", b""), (READ, "Answered, reply ", READ_REPLY))
     with Preset(program) as server, Client(server.port) as client:
         client.send(b"".join(tcp(body) for body, _, _ in rows_of_log))

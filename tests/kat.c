@@ -44,6 +44,7 @@ int main(int argc, char **argv) {
     driver_cases(listing ? list_case : call_case);
     if (listing) return 0;
     other_calls();
-    printf("%u checks, all as document 01 says\n", checks);
+    asking_cases();
+    printf("%u checks, all as the documents say\n", checks);
     return 0;
 }

@@ -1,5 +1,6 @@
-/* What the files of kat share: kat.c starts and counts; kat_drive.c has the driver's cases, from kat_rows.h, and
- * kat_calls.c the header's other four calls; kat_list.c writes the list. */
+/* What the files of kat share: kat.c starts and counts; kat_drive.c has the driver's cases, from kat_rows.h,
+ * kat_ask.c the asking side's, and kat_calls.c the header's other four calls; kat_list.c
+ * writes the list. */
 #ifndef KAT_H
 #define KAT_H
 #include "asked.h"
@@ -50,4 +51,10 @@ void list_head(void);
 
 /* The other four calls. */
 void other_calls(void);
+
+/* The three calls of the asking side. */
+void asking_cases(void);
+
+/* Header and check around a body; answers the length. Nothing around nothing. The transaction is 1234. */
+size_t wrapped(int transport, const uint8_t *body, size_t n, uint8_t *frame);
 #endif

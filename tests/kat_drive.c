@@ -41,8 +41,7 @@ void call_case(const struct row *row, const struct asked *a, struct slice reply)
     checks++;
 }
 
-/* Header and check around a body; answers the length. Nothing around nothing. */
-static size_t wrapped(int transport, const uint8_t *body, size_t n, uint8_t *frame) {
+size_t wrapped(int transport, const uint8_t *body, size_t n, uint8_t *frame) {
     size_t len = 0;
     unsigned sum = 0;
     if (n == 0) return 0;

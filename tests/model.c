@@ -25,11 +25,8 @@ static int sum(const uint8_t *bytes, size_t n) {
     return total % 256;
 }
 
-/* The frame's bytes from the unit on, without check, go to body. 0: right, else the outcome. */
-static int unwrap(const struct asked *a, uint8_t *body, size_t *n) {
-    const uint8_t *f = a->frame.bytes;
-    size_t len = a->frame.len;
-    switch (a->transport) {
+int model_unwrap(uint8_t transport, const uint8_t *f, size_t len, uint8_t *body, size_t *n) {
+    switch (transport) {
     case 0:
         if (len < 4 || len > 256) return 5;
         *n = len - 2;
@@ -51,14 +48,8 @@ static int unwrap(const struct asked *a, uint8_t *body, size_t *n) {
     }
 }
 
-/* Puts header and check around the reply; answers its length. */
-static size_t wrap(const struct asked *a, const uint8_t *body, size_t n) {
-    uint8_t *r = a->reply.bytes;
-    switch (a->transport) {
-    case 0:
-        memcpy(r, body, n);
-        r[n] = (uint8_t)(model_crc(body, n) % 256), r[n + 1] = (uint8_t)(model_crc(body, n) / 256);
-        return n + 2;
+size_t model_wrap(uint8_t transport, const uint8_t *tag, const uint8_t *body, size_t n, uint8_t *r) {
+    switch (transport) {
     case 1:
         r[0] = ':';
         for (size_t i = 0; i <= n; i++) {
@@ -68,11 +59,15 @@ static size_t wrap(const struct asked *a, const uint8_t *body, size_t n) {
         }
         memcpy(r + 2 * n + 3, "\r\n", 2);
         return 2 * n + 5;
-    default:
-        r[0] = a->frame.bytes[0], r[1] = a->frame.bytes[1], r[2] = 0, r[3] = 0;
+    case 2:
+        r[0] = tag[0], r[1] = tag[1], r[2] = 0, r[3] = 0;
         r[4] = (uint8_t)(n / 256), r[5] = (uint8_t)(n % 256);
         memcpy(r + 6, body, n);
         return n + 6;
+    default:
+        memcpy(r, body, n);
+        r[n] = (uint8_t)(model_crc(body, n) % 256), r[n + 1] = (uint8_t)(model_crc(body, n) / 256);
+        return n + 2;
     }
 }
 
@@ -87,7 +82,7 @@ static int table_of(uint8_t f) { /* -1: the function is not served */
            : f == 4 ? INPUTS : -1;
 }
 
-static int value_right(const uint8_t *b) {
+int model_value_right(const uint8_t *b) {
     size_t count = word(b + 4);
     switch (b[1]) {
     case 1: case 2: return count >= 1 && count <= 2000;
@@ -120,6 +115,10 @@ static size_t serve(const struct asked *a, int tab, const uint8_t *b, uint8_t *r
     }
 }
 
+static size_t wrap(const struct asked *a, const uint8_t *body, size_t n) {
+    return model_wrap(a->transport, a->frame.bytes, body, n, a->reply.bytes);
+}
+
 result model_drive(const struct asked *a) {
     uint8_t b[256], r[256];
     size_t n = 0;
@@ -130,7 +129,7 @@ result model_drive(const struct asked *a) {
             return (result){0, 10, 0};
     }
     if (a->reply.len < (a->transport == 1 ? 511 : 260)) return (result){0, 9, 0};
-    int wrong = unwrap(a, b, &n);
+    int wrong = model_unwrap(a->transport, a->frame.bytes, a->frame.len, b, &n);
     if (wrong) return (result){0, (uint8_t)wrong, 0};
     int broadcast = a->list.len > 0 && memchr(a->list.bytes, b[0], a->list.len) != NULL;
     if (!broadcast && b[0] != a->unit) return (result){0, 4, 0};
@@ -139,7 +138,7 @@ result model_drive(const struct asked *a) {
     if (tab < 0) code = 1;
     else if (broadcast && b[1] <= 4) return (result){0, 3, 0};
     else if (b[1] <= 6 ? n != 6 : n < 7 || n != 7u + b[6]) return (result){0, 7, 0};
-    else if (!value_right(b)) code = 3;
+    else if (!model_value_right(b)) code = 3;
     else if (word(b + 2) + (b[1] == 5 || b[1] == 6 ? 1 : word(b + 4)) > a->cells[tab]) code = 2;
     if (code && broadcast) return (result){0, 3, (uint8_t)code};
     if (code) return (result){wrap(a, (uint8_t[]){b[0], (uint8_t)(b[1] + 128), (uint8_t)code}, 3), 2, (uint8_t)code};

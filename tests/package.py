@@ -40,8 +40,8 @@ def installed(root):
     return os.path.join(PROGRAMS["stage"].name, "opt/dalonjang")
 
 
-def options(root):
-    return re.findall(r"^  --([a-z0-9-]+)", run(root, os.path.join(installed(root), "bin/dalonjang-server"), "--help")[0], re.M)
+def options(root, program="dalonjang-server"):
+    return re.findall(r"^  --([a-z0-9-]+)", run(root, os.path.join(installed(root), "bin", program), "--help")[0], re.M)
 
 
 # --- make and the kit -------------------------------------------------------------------------------------------------
@@ -137,31 +137,34 @@ def test_without_kit(root):
 # --- what is installed ------------------------------------------------------------------------------------------------
 
 def test_installed(root):
-    """The files with their modes; the example of the README, built with nothing but them, says what the README says."""
+    """The files with their modes; the examples of the README, built with nothing but them, say what the README says."""
     at = installed(root)
     found = {os.path.relpath(os.path.join(folder, name), at): stat.S_IMODE(os.stat(os.path.join(folder, name)).st_mode)
              for folder, _, names in os.walk(at) for name in names}
     same(found, {"include/dalonjang.h": 0o644, "lib/libdalonjang.a": 0o644, "lib/pkgconfig/dalonjang.pc": 0o644,
-                 "bin/dalonjang-server": 0o755, "share/man/man3/dalonjang.3": 0o644,
-                 "share/man/man1/dalonjang-server.1": 0o644, "share/doc/dalonjang/NOTICE": 0o644}, "the files")
+                 "bin/dalonjang-server": 0o755, "bin/dalonjang-ask": 0o755, "share/man/man3/dalonjang.3": 0o644,
+                 "share/man/man1/dalonjang-server.1": 0o644, "share/man/man1/dalonjang-ask.1": 0o644,
+                 "share/doc/dalonjang/NOTICE": 0o644}, "the files")
     same(text(at, "share/doc/dalonjang/NOTICE"), text(root, "NOTICE"), "the licence")
     module = text(at, "lib/pkgconfig/dalonjang.pc").replace("prefix=/opt/dalonjang", f"prefix={at}")
     values = dict(re.findall(r"^(\w+)=(.*)$", module, re.M))
     for _ in range(2):
         module = re.sub(r"\$\{(\w+)\}", lambda found: values[found[1]], module)
     flags = dict(re.findall(r"^(\w+): (.*)$", module, re.M))
-    block = re.search(r"```c\n(.*?)```", text(root, "README.md"), re.S)[1]
-    with tempfile.TemporaryDirectory() as room:
-        with open(os.path.join(room, "example.c"), "w", encoding="utf-8") as file:
-            file.write(block)
-        run(room, "gcc", "-Wall", "-Wextra", "-Werror", *flags["Cflags"].split(), "example.c", "-o", "example",
-            *flags["Libs"].split())
-        said = run(room, "./example")[0]
-    same(len(block.splitlines()), 10, "the lines of the README's example")
-    check(f"&& ./example\n    {said}" in text(root, "README.md"), f"the example says {said}")
+    blocks = re.findall(r"```c\n(.*?)```", text(root, "README.md"), re.S)
+    same([len(block.splitlines()) for block in blocks], [10, 11], "the lines of the README's examples")
+    for name, block in zip(("example", "asking"), blocks):
+        with tempfile.TemporaryDirectory() as room:
+            with open(os.path.join(room, f"{name}.c"), "w", encoding="utf-8") as file:
+                file.write(block)
+            run(room, "gcc", "-Wall", "-Wextra", "-Werror", *flags["Cflags"].split(), f"{name}.c", "-o", name,
+                *flags["Libs"].split())
+            said = run(room, f"./{name}")[0]
+        check(f"&& ./{name}\n    {said}" in text(root, "README.md"), f"the example {name} says {said}")
     version = re.search(r'#define DALONJANG_VERSION "(\d+\.\d+\.\d+)"', text(at, "include/dalonjang.h"))[1]
     same(flags["Version"], version, "the version that pkg-config knows")
     same(run(root, os.path.join(at, "bin/dalonjang-server"), "--version")[0], f"dalonjang-server {version}\n", "--version")
+    same(run(root, os.path.join(at, "bin/dalonjang-ask"), "--version")[0], f"ask {version}\n", "--version of the tool")
     if shutil.which("pkg-config"):
         same(run(root, "pkg-config", "--modversion", "dalonjang",
                  PKG_CONFIG_PATH=os.path.join(at, "lib/pkgconfig"))[0].strip(), version, "what pkg-config says")
@@ -171,11 +174,14 @@ def test_installed(root):
 def test_manual(root):
     """The pages have every option and every outcome, and groff, where it is, finds nothing wrong with them."""
     at, header = installed(root), text(root, "include/dalonjang.h")
-    pages = {name: text(at, "share/man", name) for name in ("man1/dalonjang-server.1", "man3/dalonjang.3")}
-    server = pages["man1/dalonjang-server.1"].replace("\\-", "-")
-    same([option for option in options(root) if f"\n  --{option} " not in server], [], "options that the page has not")
+    pages = {name: text(at, "share/man", name)
+             for name in ("man1/dalonjang-server.1", "man1/dalonjang-ask.1", "man3/dalonjang.3")}
+    for program in ("dalonjang-server", "dalonjang-ask"):
+        page = pages[f"man1/{program}.1"].replace("\\-", "-")
+        same([option for option in options(root, program) if f"\n  --{option} " not in page], [],
+             f"options that the page of {program} has not")
     outcomes = re.findall(r"(DALONJANG_[A-Z_]+) = (\d+)", header.partition("enum dalonjang_outcome {")[2].partition("};")[0])
-    same(len(outcomes), 11, "the outcomes of the header")
+    same(len(outcomes), 13, "the outcomes of the header")
     same([name for name, number in outcomes if f"{name} ({number})\t" not in pages["man3/dalonjang.3"]], [],
          "outcomes that the page has not")
     calls = set(re.findall(r"\b(dalonjang_[a-z_0-9]+)\(", header)) - {"dalonjang_drive"}
@@ -190,9 +196,9 @@ def test_manual(root):
 # --- the README -------------------------------------------------------------------------------------------------------
 
 def test_readme_order(root):
-    """What it is, ten lines of C, picture, the two commands, the server, five files, proved and assumed, limits."""
+    """What it is, ten lines of C, picture, the commands, the server, asking, five files, proved and assumed, limits."""
     titles = re.findall(r"^## (.*)$", text(root, "README.md"), re.M)
-    same(titles[:7], ["Ten lines of C", "One call, as a picture", "Two commands", "A server to try",
+    same(titles[:8], ["Ten lines of C", "One call, as a picture", "Three commands", "A server to try", "Asking",
                       "Five files to read, in this order", "Proved, tested, assumed", "Limits"], "the sections")
 
 
@@ -201,9 +207,9 @@ def test_readme_paths(root):
     readme = text(root, "README.md")
     paths = re.findall(r"\]\(([^)#]+)\)", readme) + re.findall(r"`((?:crates|docs|bin|host|include|tests)/[\w./-]+)`", readme)
     same([path for path in paths if not os.path.exists(os.path.join(root, path))], [], "paths that are not there")
-    known = options(root)
+    known = options(root) + options(root, "dalonjang-ask")
     same([name for name in re.findall(r"(?<![\w-])--([a-z][a-z0-9-]+)", readme) if name not in known], [],
-         "options that the server has not")
+         "options that neither server nor tool has")
     crates = re.findall(r"^(\w+):", text(root, "crates.txt"), re.M)
     same([crate for crate in crates if f"`{crate}`" not in readme], [], "crates that it does not name")
     five = re.findall(r"^\d\. `(crates/[\w/]+\.antt)`", readme, re.M)
@@ -225,7 +231,13 @@ def test_readme_numbers(root):
                          (readme, f"the driver's {cases} again"), (testing, f"driver's {cases} "),
                          (testing, f"{refused} in all")):
         check(words in re.sub(r"\s+", " ", place), f"it does not say '{words}'")
-    known = re.findall(r"\b(\d+) (?:known answers|checks, all)", readme + testing)
+    asks = sum(len(re.findall(r"^def test_", text(root, "tests", name), re.M))
+               for name in os.listdir(os.path.join(root, "tests")) if re.fullmatch(r"ask_\w+\.py", name))
+    wrong_asks = sum(not line.startswith("#") for line in text(root, "tests/wrong-asks.txt").splitlines())
+    for place, words in ((readme, f"bench tool: {asks} tests, all"), (readme, f"the bench tool by {asks} tests"),
+                         (readme, f"as servers, with {wrong_asks}."), (testing, f"{wrong_asks} wrong edits of the tool")):
+        check(words in re.sub(r"\s+", " ", place), f"it does not say '{words}'")
+    known = re.findall(r"\b([\d,]+) (?:known answers|checks, all)", readme + testing)
     check(len(known) > 2 and len(set(known)) == 1, f"the known answers are {known}")
 
 
@@ -248,12 +260,24 @@ def ask_as_in_readme(root, port):
              f"lines that {command} does not print")
 
 
+def ask_by_tool_as_in_readme(root, port):
+    """The README's session with the bench tool: the cells that mbpoll wrote there, and the line that asks a serial line."""
+    commands = re.findall(r'    \$ make ask ARGS="(.*)"\n((?:    (?!\$).*\n)*)', text(root, "README.md"))
+    same(len(commands), 2, "the commands for the tool")
+    tool = os.path.join(installed(root), "bin/dalonjang-ask")
+    run(root, tool, "--tcp", f"127.0.0.1:{port}", "write", "holdings", "0", "258", "772", "65535")
+    for words, wanted in commands:
+        words = re.sub(r"--tcp 127.0.0.1:1502|--rtu /dev/ttyUSB0", f"--tcp 127.0.0.1:{port}", words)
+        same(run(root, tool, *words.split())[0], wanted.replace("\n    ", "\n")[4:], f"what the tool says to {words}")
+
+
 def test_readme_server(root):
     """The server says at the start what it says in the README, and so do its clients."""
     said = re.search(r"\$ make serve\n((?:    .*\n)+)", text(root, "README.md"))[1].replace("\n    ", "\n")[4:]
     with Server(os.path.join(installed(root), "bin/dalonjang-server")) as server:
         same(server.output().replace(str(server.port), "1502"), said, "the first lines")
         ask_as_in_readme(root, server.port)
+        ask_by_tool_as_in_readme(root, server.port)
     image = re.search(r"(dalonjang tables\n(?:    .*\n)+)", text(root, "README.md"))[1].replace("\n    ", "\n")
     with tempfile.NamedTemporaryFile("w") as file:
         file.write(image)

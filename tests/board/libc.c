@@ -103,6 +103,10 @@ static unsigned divided(unsigned n, unsigned by, unsigned *rest) {
 }
 
 unsigned __aeabi_uidiv(unsigned n, unsigned by) { return divided(n, by, &(unsigned){0}); }
+unsigned long long __aeabi_uidivmod(unsigned n, unsigned by) { /* the quotient in r0, the rest in r1 */
+    unsigned rest, whole = divided(n, by, &rest);
+    return (unsigned long long)rest << 32 | whole;
+}
 
 /* %s, %d, %u, %X, with z and a width filled with zeros. */
 static int print(char *to, size_t room, const char *format, va_list values) {

@@ -5,6 +5,7 @@ use mathlib.Core.List.{List}
 use Prim.Native.Nat.{ℕ}
 use Rattle.modbus.proofs.Unique.{Unique, answer-paper}
 use Rattle.driver.proofs.Unique.{drive as driver-drive}
+use Rattle.client.proofs.Unique.{generate-get as client-generate-get, generate-set as client-generate-set, parse-response as client-parse-response}
 use Rattle.dalonjang.proofs.dalonjang_drive.Kinds as dalonjang-drive-kinds
 use Rattle.dalonjang.proofs.dalonjang_drive.Reads as dalonjang-drive-reads
 use Rattle.dalonjang.proofs.dalonjang_parse_ascii_frame.Kinds as dalonjang-parse-ascii-frame-kinds
@@ -15,6 +16,12 @@ use Rattle.dalonjang.proofs.dalonjang_guess_request_frame_len.Kinds as 
 use Rattle.dalonjang.proofs.dalonjang_guess_request_frame_len.Reads as dalonjang-guess-request-frame-len-reads
 use Rattle.dalonjang.proofs.dalonjang_guess_response_frame_len.Kinds as dalonjang-guess-response-frame-len-kinds
 use Rattle.dalonjang.proofs.dalonjang_guess_response_frame_len.Reads as dalonjang-guess-response-frame-len-reads
+use Rattle.dalonjang.proofs.dalonjang_generate_get.Kinds as dalonjang-generate-get-kinds
+use Rattle.dalonjang.proofs.dalonjang_generate_get.Reads as dalonjang-generate-get-reads
+use Rattle.dalonjang.proofs.dalonjang_generate_set.Kinds as dalonjang-generate-set-kinds
+use Rattle.dalonjang.proofs.dalonjang_generate_set.Reads as dalonjang-generate-set-reads
+use Rattle.dalonjang.proofs.dalonjang_parse_response.Kinds as dalonjang-parse-response-kinds
+use Rattle.dalonjang.proofs.dalonjang_parse_response.Reads as dalonjang-parse-response-reads
 
 pub parse-ascii-frame : Unique 2 dalonjang-parse-ascii-frame-kinds.ps dalonjang-parse-ascii-frame-kinds.r dalonjang-parse-ascii-frame-reads.Post
 parse-ascii-frame κs a x y u v p q =
@@ -35,3 +42,13 @@ guess-response-frame-len κs a x y u v p q = (answer-paper x y (p ∙ sym q), re
 -- the driver's contract is this one
 pub drive : Unique 7 dalonjang-drive-kinds.ps dalonjang-drive-kinds.r dalonjang-drive-reads.Post
 drive = driver-drive
+
+-- and so are the client's
+pub generate-get : Unique 1 dalonjang-generate-get-kinds.ps dalonjang-generate-get-kinds.r dalonjang-generate-get-reads.Post
+generate-get = client-generate-get
+
+pub generate-set : Unique 2 dalonjang-generate-set-kinds.ps dalonjang-generate-set-kinds.r dalonjang-generate-set-reads.Post
+generate-set = client-generate-set
+
+pub parse-response : Unique 3 dalonjang-parse-response-kinds.ps dalonjang-parse-response-kinds.r dalonjang-parse-response-reads.Post
+parse-response = client-parse-response

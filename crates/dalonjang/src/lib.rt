@@ -1,12 +1,16 @@
 // The C library: numbers and byte slices in, numbers out. A slice is a pointer, then a length; include/dalonjang.h says what each call promises.
+use client::ModbusRequest;
+use client::Reading;
 use driver::Driven;
 use driver::Setup;
 use modbus::Answer;
 use modbus::ProtoAnswer;
 ghost use mathlib.Core.Path.{_≡_};
+ghost use lib.ListN.{length};
 ghost use Rattle.ascii.specs.Reading.{parsedInto, generatedInto};
 ghost use Rattle.lengths.specs.Guess.{requestBody, responseBody};
 ghost use Rattle.driver.specs.Driven.{lentIn, leaving, called};
+ghost use Rattle.client.specs.Asking.{getting, setting, generated, laidInto, understood, readInto};
 ghost use Rattle.dalonjang.specs.Numbered.{sideBody, guessed};
 
 #[no_mangle]
@@ -83,4 +87,42 @@ pub extern "C" fn dalonjang_guess_response_frame_len(buf: &[u8], proto: u8) -> A
     ensures { λ r. ⌜ (r .kind, r .value) ≡ guessed responseBody proto (now (buf .entry)) ⌝ }
 {
     guess_frame_len(false, buf, proto)
+}
+
+#[no_mangle]
+pub extern "C" fn dalonjang_generate_get(
+    to: ModbusRequest,
+    func: u8,
+    reg: u16,
+    count: u16,
+    request: &mut [u8],
+) -> Answer
+    ensures { λ r. ⌜ (r, now (request .exit)) ≡ laidInto (now (request .entry)) (generated to (getting (to .proto) func reg count) (length (now (request .entry)))) ⌝ }
+{
+    to.generate_get(func, reg, count, request)
+}
+
+#[no_mangle]
+pub extern "C" fn dalonjang_generate_set(
+    to: ModbusRequest,
+    func: u8,
+    reg: u16,
+    values: &[u16],
+    request: &mut [u8],
+) -> Answer
+    ensures { λ r. ⌜ (r, now (request .exit)) ≡ laidInto (now (request .entry)) (generated to (setting (to .proto) func reg (now (values .entry))) (length (now (request .entry)))) ⌝ }
+{
+    to.generate_set(func, reg, values, request)
+}
+
+#[no_mangle]
+pub extern "C" fn dalonjang_parse_response(
+    proto: u8,
+    request: &[u8],
+    response: &[u8],
+    values: &mut [u16],
+) -> Reading
+    ensures { λ r. ⌜ (r, now (values .exit)) ≡ readInto (now (values .entry)) (understood proto (now (request .entry)) (now (response .entry)) (length (now (values .entry)))) ⌝ }
+{
+    client::parse_response(proto, request, response, values)
 }

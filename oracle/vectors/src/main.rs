@@ -4,6 +4,7 @@
 //!                              ones up to N
 //!     vectors tables N SEED    the same of module 4
 //!     vectors drive N SEED     the same of the driver: whole frames, beside the crate's chain from parse to finalize
+//!     vectors asking N SEED    the same of the asking side, beside the crate's client
 //!     vectors frame N SEED     exactly N records of modules 5 to 7 as text: the edges, then random calls and chains
 //!     vectors spoilt N SEED    the same, each field of an expected answer wrong in one record; their numbers are said
 //!     vectors list SEED        the fixed list of modules 1 to 3 as text: the edges, then short random ones
@@ -12,6 +13,7 @@
 //! It ends with an error where the crate panics and document 01 foresees none, or the other way round, where the crate
 //! differs from document 01 in a way not known, and where a kind of answer that a call can give did not come up.
 mod answer;
+mod asking;
 mod bounded;
 mod chance;
 mod drive;
@@ -55,11 +57,12 @@ fn main() {
         (Some("stream"), &[n, seed]) if args.len() == 3 => stream(n as usize, seed),
         (Some("tables"), &[n, seed]) if args.len() == 3 => tables(n as usize, seed),
         (Some("drive"), &[n, seed]) if args.len() == 3 => drive(n as usize, seed),
+        (Some("asking"), &[n, seed]) if args.len() == 3 => asking(n as usize, seed),
         (Some("frame"), &[n, seed]) if args.len() == 3 => frame::stream(n as usize, seed),
         (Some("spoilt"), &[n, seed]) if args.len() == 3 => frame::spoilt(n as usize, seed),
         (Some("list"), &[seed]) if args.len() == 2 => list(seed),
         (Some("sample"), &[seed]) if args.len() == 2 => frame::sample(seed),
-        _ => fail("usage: vectors stream|tables|drive|frame|spoilt N SEED | vectors list|sample SEED"),
+        _ => fail("usage: vectors stream|tables|drive|asking|frame|spoilt N SEED | vectors list|sample SEED"),
     }
 }
 
@@ -136,6 +139,39 @@ fn drive(n: usize, seed: u64) {
         eprintln!("{count:8} panics in {stage}");
     }
     eprintln!("the crate differs in {} known ways and panics in {} places", ways.len(), panics.len());
+}
+
+/// Says at the end how often the crate differed in each way, with the smallest call met.
+fn asking(n: usize, seed: u64) {
+    let mut out = Out::new();
+    let mut total = 0;
+    let mut ways: BTreeMap<&str, (usize, Vec<u8>, String)> = BTreeMap::new();
+    let mut put = |call: asking::Call| {
+        let answer = asking::answer(&call).unwrap_or_else(|why| fail(&format!("{why}: {call}")));
+        let record = call.record(&answer);
+        out.bytes(&record);
+        if let Some((way, theirs)) = answer.difference {
+            let (count, smallest, said) = ways.entry(way).or_default();
+            *count += 1;
+            if *count == 1 || (record.len(), &record) < (smallest.len(), smallest) {
+                *said = format!("{call} | {theirs} | {}, {}", answer.kind, answer.code);
+                *smallest = record;
+            }
+        }
+        total += 1;
+        total
+    };
+    asking::edges().into_iter().for_each(|call| {
+        put(call);
+    });
+    let mut chance = Chance(seed);
+    while put(asking::random(&mut chance)) < n {}
+    out.flush();
+    for way in asking::WAYS {
+        let Some((count, _, said)) = ways.get(way) else { fail(&format!("the crate never differed by this: {way}")) };
+        eprintln!("{count:8} {way} | {said}");
+    }
+    eprintln!("the crate's client differs in {} known ways", ways.len());
 }
 
 fn hex(bytes: &[u8]) -> String {

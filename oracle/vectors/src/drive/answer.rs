@@ -86,7 +86,7 @@ fn beyond(call: &Call, outcome: u8) -> Option<&'static str> {
     }
 }
 
-fn ends_at_cr_lf(text: &[u8]) -> bool {
+pub fn ends_at_cr_lf(text: &[u8]) -> bool {
     let end = text.iter().position(|c| matches!(c, b'\r' | b'\n' | 0));
     end.is_some_and(|end| text[end..] == *b"\r\n")
 }

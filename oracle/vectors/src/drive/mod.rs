@@ -7,4 +7,4 @@ mod lenient;
 pub mod model;
 pub mod random;
 pub mod record;
-mod wire;
+pub mod wire;

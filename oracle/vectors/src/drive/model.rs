@@ -30,7 +30,7 @@ pub fn table_of(function: u8) -> usize {
 
 /// Outcome, code, and what is left.
 pub fn drive(call: &Call) -> (u8, u8, Left) {
-    let (outcome, code, body) = match unwrap(call) {
+    let (outcome, code, body) = match opened(call) {
         Ok(body) => {
             let (outcome, code) = judge(call, &body);
             (outcome, code, body)
@@ -49,13 +49,16 @@ pub fn drive(call: &Call) -> (u8, u8, Left) {
     (outcome, code, left)
 }
 
-/// From the unit byte, without check; or NoRoom, FrameBroken, FrameCheck.
-fn unwrap(call: &Call) -> Result<Vec<u8>, u8> {
-    let frame = &call.frame;
+fn opened(call: &Call) -> Result<Vec<u8>, u8> {
     if call.room < if call.transport == ASCII { 511 } else { 260 } {
         return Err(NO_ROOM);
     }
-    match call.transport {
+    unwrap(call.transport, &call.frame)
+}
+
+/// From the unit byte, without check; or FrameBroken, FrameCheck.
+pub fn unwrap(transport: u8, frame: &[u8]) -> Result<Vec<u8>, u8> {
+    match transport {
         RTU => {
             if !(4..=256).contains(&frame.len()) {
                 return Err(FRAME_BROKEN);
@@ -130,7 +133,7 @@ pub fn extent(body: &[u8]) -> usize {
     }
 }
 
-fn value_right(body: &[u8]) -> bool {
+pub fn value_right(body: &[u8]) -> bool {
     let count = word(body, 4);
     match body[1] {
         1 | 2 => (1..=2000).contains(&count),

@@ -1,0 +1,9 @@
+pub mod Sent
+pub mod OnlyMine
+pub mod Never
+pub mod Built
+pub mod ReadBack
+pub mod CaseTable
+pub mod Impostors
+pub mod OnBytes
+pub mod Contracts

@@ -1,0 +1,74 @@
+-- The request that a frame says is the one whose encoding it is, and no other.
+-- Assumes nothing.
+use mathlib.Core.Logic.{_↔_}
+use mathlib.Core.Path.{_≡_, refl, sym, ap, _∙_, subst}
+use mathlib.Core.List.{List, [], _∷_}
+use Prim.Native.Nat.{ℕ, _≤_}
+use native.Mathlib.Omega.{arith}
+use lib.ListN.{length, getD, drop}
+use Rattle.modbus.specs.Step.{Step, stop, go, _>>=_}
+use Rattle.modbus.specs.Bytes.{Bytes}
+use Rattle.modbus.specs.Request.{Fn, code, Ask, fnOf, Permitted, pdu}
+use Rattle.modbus.specs.Paper.{protoOf}
+use Rattle.modbus.specs.Frame.{Framed}
+use Rattle.modbus.specs.Decode.{Message, unitOf, numberOf, unwrap, asked}
+use Rattle.modbus.specs.Drive.{Inside, fromFunction}
+use Rattle.modbus.proofs.StepLaws.{pass, follow, bound, needed}
+use Rattle.modbus.proofs.FindLaws.{find-fn, found-fn}
+use Rattle.modbus.proofs.RequestLaws.{asked-says, says-heard}
+use Rattle.modbus.proofs.FrameLaws.{sound, complete}
+use Rattle.demands.specs.Demand.{Request}
+use Rattle.client.specs.Asking.{Declined, badRequest, orBadRequest, everyCell, functionOf, saidBy, sentAs}
+use Rattle.client.proofs.BuildLaws.{or-go}
+use Rattle.asking.specs.Belonging.{Says}
+
+abbrev pub requested : Message → Ask → Request
+requested m a = record { tag = m .tag; unit = unitOf m; ask = a }
+
+bad-went : {F A : Type 0} (s : Step F A) {a : A} → orBadRequest s ≡ go a → s ≡ go a
+unfolding orBadRequest
+bad-went (stop x) e = let z : _≡_ {A = ℕ} 0 1 = cc in absurd (omega arith)
+bad-went (go b) {a} e = let z : b ≡ a = cc in ap go z
+
+module _ (n : ℕ) (f : List ℕ) (h : n ≤ 2) where
+  -- what was read as a request is one
+  pub sent-says : Bytes f → (m : Message) (a : Ask) → sentAs n f ≡ go (m, a) → Says n f (requested m a)
+  unfolding sentAs
+  sent-says y m a e =
+      bound _ _ e λ m′ unwrapped e₁.
+      bound _ _ e₁ λ fn found e₂.
+      needed _ _ _ (bad-went _ e₂) λ lengthy e₃.
+      needed _ _ _ e₃ λ valued e₄.
+      needed _ _ _ e₄ λ inside e₅.
+      let framed = sound (protoOf n) f m′ y (bad-went _ unwrapped) in
+      let says = asked-says fn (m′ .body) (framed .bytes) (found-fn code _ _ _ fn found) lengthy valued in
+      let z : _≡_ {A = Message × Ask} (m′, asked fn (m′ .body)) (m, a) = cc in
+      subst (λ (x : Message × Ask). Says n f (requested (x .0) (x .1))) z
+      (record {
+        transport = h;
+        permitted = says .permitted;
+        inside = inside;
+        encoded = (drop 1 (m′ .body), says .encodes, subst (λ (b : List ℕ). Framed (protoOf n) (m′ .tag) b f) (says .headed) framed);
+      })
+
+-- and every request that a frame is the encoding of is read
+abbrev pub messageOf : (n : ℕ) (f : List ℕ) (q : Request) → Says n f q → Message
+messageOf n f q h = record { tag = q .tag; body = q .unit ∷ h .encoded .0 }
+
+pub says-sent : (n : ℕ) (f : List ℕ) (q : Request) (h : Says n f q) → sentAs n f ≡ go (messageOf n f q h, q .ask)
+unfolding sentAs
+says-sent n f q h =
+    let (l, encodes, framed) = h .encoded in
+    let k = says-heard (q .ask) (q .unit) l (h .permitted) encodes in
+    let m = messageOf n f q h in
+    follow _ _ (or-go _ (complete (protoOf n) (q .tag) (q .unit ∷ l) f framed))
+    ∙ follow _ _ (find-fn badRequest (numberOf m) (protoOf n) (fnOf (q .ask)) (k .number))
+    ∙ or-go _
+    (pass _ _ _ (k .lengthy) ∙ pass _ _ _ (k .valued) ∙ pass _ _ _ (subst (Inside (everyCell n)) (sym (k .asks)) (h .inside))
+    ∙ ap (λ (x : Ask). go (m, x)) (k .asks))
+
+-- the number that stands in its body
+pub says-number : (n : ℕ) (f : List ℕ) (q : Request) (h : Says n f q) → numberOf (messageOf n f q h) ≡ code (fnOf (q .ask))
+says-number n f q h =
+    let (l, encodes, framed) = h .encoded in
+    says-heard (q .ask) (q .unit) l (h .permitted) encodes .number

@@ -1,0 +1,44 @@
+-- What the asking side promises, in words that know nothing of how a reply is read: the request that a frame is the encoding of, and the
+-- frames that answer it.
+-- Assumes nothing.
+use mathlib.Core.Path.{_≡_}
+use mathlib.Core.List.{List, [], _∷_}
+use Prim.Native.Nat.{ℕ, _≤_, _<_}
+use lib.ListN.{length, getD, take}
+use Rattle.modbus.specs.Bytes.{All}
+use Rattle.modbus.specs.Table.{kindOf, Fits}
+use Rattle.modbus.specs.Request.{reads, code, Ask, read, write, writes, fnOf, Permitted, cargo, octets, Fills, answer, exception}
+use Rattle.modbus.specs.Paper.{protoOf}
+use Rattle.modbus.specs.Frame.{Framed}
+use Rattle.modbus.specs.Decode.{Message}
+use Rattle.modbus.specs.Drive.{Inside}
+use Rattle.demands.specs.Demand.{Request, Encoded}
+use Rattle.client.specs.declared.ModbusRequest.{ModbusRequest}
+use Rattle.client.specs.Asking.{everyCell, tagTo, shownCount}
+
+-- the frame is, within document 01's bounds, the published encoding of a request that may be asked
+pub record Says (n : ℕ) (f : List ℕ) (q : Request) : Type 0 where
+  pub transport : n ≤ 2
+  pub permitted : Permitted (q .ask)
+  pub inside : Inside (everyCell n) (q .ask)
+  pub encoded : Encoded (everyCell n) q f
+
+-- an answer to it that shows these values, with any pad bits
+abbrev pub Shows : Ask → List ℕ → List ℕ → Type 0
+Shows (read t s n) vs l =
+    (length vs ≡ n) × All (Fits (kindOf t)) vs
+    × ((pad : List ℕ) × Fills (kindOf t) vs pad × (l ≡ code (reads t) ∷ octets (kindOf t) n ∷ cargo (kindOf t) vs pad))
+Shows (write k a v) vs l = (vs ≡ []) × (l ≡ answer (write k a v) [])
+Shows (writes k s ws) vs l = (vs ≡ []) × (l ≡ answer (writes k s ws) [])
+
+-- a frame, within the bounds, of the same transaction and unit around an answer with these values
+abbrev pub Answering : ℕ → Request → List ℕ → List ℕ → Type 0
+Answering n q vs r = (l : List ℕ) × Shows (q .ask) vs l × Framed (protoOf n) (q .tag) (q .unit ∷ l) r
+
+-- or around an exception to it, of a code from 1 on
+abbrev pub Excepting : ℕ → Request → ℕ → List ℕ → Type 0
+Excepting n q c r = (1 ≤ c) × Framed (protoOf n) (q .tag) (q .unit ∷ exception (code (fnOf (q .ask))) c) r
+
+-- the request that is built for somebody
+abbrev pub requestTo : ModbusRequest → Ask → Request
+requestTo to a = record { tag = tagTo to; unit = to .«unit_id»; ask = a }

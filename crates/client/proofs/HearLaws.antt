@@ -1,0 +1,296 @@
+-- A reply held against its request: each way out of reading, and the request that its frame says.
+-- Assumes nothing.
+use mathlib.Core.Bool.{Bool, true, false}
+use mathlib.Core.Logic.{inl, inr, by-cases}
+use mathlib.Core.Path.{_≡_, refl, sym, ap, ap₂, _∙_, subst}
+use mathlib.Core.List.{List, [], _∷_, head-eq-of-cons-eq, tail-eq-of-cons-eq}
+use Prim.Native.Nat.{ℕ, zero, suc, _+_, _-_, _*_, _/_, _≤_, _<_}
+use native.Mathlib.Omega.{arith}
+use lib.Dec.{ltb}
+use lib.ListN.{length, getD, take, drop, length-take, length-drop}
+use lib.Seq.{sets, ext-getD, getD-take, length-take-le, take-length}
+use Rattle.modbus.specs.Step.{Step, stop, go, _>>=_, _>>_, need, choose, _≤?_, _≟_, _and?_, same?}
+use Rattle.modbus.specs.Table.{Kind, bit, word, Tab, coils, discretes, holdings, inputs, kindOf}
+use Rattle.modbus.specs.Request.{Fn, reads, one, many, code, Ask, read, write, writes, fnOf, mostRead, octets}
+use Rattle.modbus.specs.Storage.{values}
+use Rattle.modbus.specs.Paper.{protoOf}
+use Rattle.modbus.specs.Frame.{tagOf}
+use Rattle.modbus.specs.Setup.{Setup, proto}
+use Rattle.modbus.specs.Decode.{Message, unitOf, numberOf, Silent, noRoom, outcomeOf, IsRead, Lengthy, Valued, unwrap, asked}
+use Rattle.modbus.specs.Drive.{Inside, fromFunction}
+use Rattle.modbus.specs.declared.ModbusProto.the-variants.{TcpUdp}
+use Rattle.modbus.proofs.StepLaws.{pass, fail, follow, halt, bound, needed, pick-yes, pick-no, holds, holds-not, test-refuses, test-passes}
+use Rattle.modbus.proofs.StorageLaws.{length-part}
+use Rattle.modbus.proofs.FindLaws.{find-fn, found-fn, found-fault, code-low}
+use Rattle.modbus.proofs.RequestLaws.{fn-asked}
+use Rattle.requests.specs.Judged.{weighed, judged, kindBy}
+use Rattle.requests.specs.declared.Cells.{Cells}
+use Rattle.requests.specs.declared.ReadCells.{ReadCells}
+use Rattle.requests.specs.declared.Write.{Write}
+use Rattle.requests.specs.declared.Write.the-variants.{Bits, Words}
+use Rattle.requests.specs.declared.Verdict.{Verdict}
+use Rattle.requests.specs.declared.Verdict.the-variants.{Read, Written, Refused, Quiet}
+use Rattle.requests.proofs.FineLaws.{went, Stores, Fine, FineRead, FineWrite, fine}
+use Rattle.transports.specs.Opened.{faultOf}
+use Rattle.transports.proofs.AnswerLaws.{number-fault}
+use Rattle.client.specs.declared.Reading.{Reading}
+use Rattle.client.specs.Asking.{Declined, badRequest, notMyReply, silent, declinedBy, orBadRequest, orSilent, everyCell, functionOf, saidBy, sentAs, Reply, shows, excepted, shownCount, Excepts, excepts?, Answers, answers?, answered, heard, mine?, replied, understood, readInto}
+use Rattle.client.specs.Hearing.{readOf, messageIn, Asks, AtMost, heardFrom, repliedTo}
+use Rattle.client.proofs.BuildLaws.{by-step, or-go, or-stop}
+
+-- ---- tags
+
+pub tag-none : (n a b c d : ℕ) → n < 2 → tagOf (protoOf n) a b ≡ tagOf (protoOf n) c d
+tag-none zero a b c d h = refl
+tag-none (suc zero) a b c d h = refl
+tag-none (suc (suc n)) a b c d h = absurd (omega arith)
+
+pub tag-two : (n a b : ℕ) → 2 ≤ n → tagOf (protoOf n) a b ≡ a ∷ b ∷ []
+tag-two zero a b h = absurd (omega arith)
+tag-two (suc zero) a b h = absurd (omega arith)
+tag-two (suc (suc n)) a b h = refl
+
+-- ---- the echo
+
+pub six-same : (sent b : List ℕ) → 6 ≤ length sent → length b ≡ 6 → ((k : ℕ) → k < 6 → getD b k 0 ≡ getD sent k 0) → b ≡ take 6 sent
+six-same sent b h e same =
+    ext-getD 0 b (take 6 sent) (e ∙ sym (length-take-le 6 sent h)) (λ i k. same i (omega arith) ∙ sym (getD-take 6 sent i 0 (omega arith)))
+
+pub six-length : (sent b : List ℕ) → 6 ≤ length sent → b ≡ take 6 sent → length b ≡ 6
+six-length sent b h e = ap length e ∙ length-take-le 6 sent h
+
+pub six-at : (sent b : List ℕ) (i : ℕ) → b ≡ take 6 sent → i < 6 → getD b i 0 ≡ getD sent i 0
+six-at sent b i e h = ap (λ (l : List ℕ). getD l i 0) e ∙ getD-take 6 sent i 0 h
+
+-- ---- numbers out
+
+module _ (out : List ℕ) where
+  pub told-stop : (s : Step Declined Reply) (r : Reading) (x : Declined) (n : ℕ) → s ≡ stop x → r ≡ readOf 0 n 0 → n ≡ declinedBy x
+      → _≡_ {A = Reading × List ℕ} (r, out) (readInto out s)
+  told-stop s r x n e q z = ap (λ (y : Reading). (y, out)) (q ∙ ap (λ (i : ℕ). readOf 0 i 0) z) ∙ sym (ap (readInto out) e)
+
+  pub told-code : (s : Step Declined Reply) (r : Reading) (c : ℕ) → s ≡ go (excepted c) → r ≡ readOf 0 2 c
+      → _≡_ {A = Reading × List ℕ} (r, out) (readInto out s)
+  told-code s r c e q = ap (λ (y : Reading). (y, out)) q ∙ sym (ap (readInto out) e)
+
+  pub told-shown : (s : Step Declined Reply) (r : Reading) (vs after : List ℕ) (n : ℕ) → s ≡ go (shows vs) → r ≡ readOf n 0 0 → n ≡ length vs
+      → after ≡ sets out 0 vs → _≡_ {A = Reading × List ℕ} (r, after) (readInto out s)
+  told-shown s r vs after n e q z w =
+      ap₂ (λ (y : Reading) (l : List ℕ). (y, l)) (q ∙ ap (λ (i : ℕ). readOf i 0 0) z) w ∙ sym (ap (readInto out) e)
+
+-- ---- the answer to a read
+
+-- the function's number tells the kind
+pub kind-lt : (t : Tab) (function : ℕ) → function ≡ code (reads t) → kindOf t ≡ kindBy (ltb function 3)
+kind-lt coils function e = rw e refl
+kind-lt discretes function e = rw e refl
+kind-lt holdings function e = rw e refl
+kind-lt inputs function e = rw e refl
+
+pub read-2000 : (k : Kind) (n : ℕ) → n ≤ mostRead k → n ≤ 2000
+read-2000 bit n h = h
+read-2000 word n h = omega arith
+
+pub read-250 : (k : Kind) (n : ℕ) → n ≤ mostRead k → octets k n ≤ 250
+read-250 bit n h = omega arith
+read-250 word n h = omega arith
+
+module _ (t : Tab) (s count : ℕ) (sent b : List ℕ) (function : ℕ) (f : function ≡ code (reads t)) (k : Kind) (e : kindOf t ≡ k)
+    (n : ℕ) (o : n ≡ octets k count) where
+  abbrev Headed : Type 0
+  Headed = (length b ≡ 3 + n) × ((getD b 1 0 ≡ function) × (getD b 2 0 ≡ n))
+
+  headed-answers : Headed → Answers (read t s count) sent b
+  headed-answers h = rw e (h .0 ∙ ap (λ (i : ℕ). 3 + i) o, (h .1 .0 ∙ f, h .1 .1 ∙ o))
+
+  answers-headed : Answers (read t s count) sent b → Headed
+  answers-headed h = let g = rw e at h in (g .0 ∙ ap (λ (i : ℕ). 3 + i) (sym o), (g .1 .0 ∙ sym f, g .1 .1 ∙ sym o))
+
+  pub read-unanswered : ¬ Headed → answered (read t s count) sent b ≡ stop notMyReply
+  read-unanswered h = fail _ _ _ (λ g. h (answers-headed g))
+
+  pub read-answered : Headed → answered (read t s count) sent b ≡ go (shows (values k count (drop 3 b)))
+  read-answered h = pass _ _ _ (headed-answers h) ∙ ap (λ (j : Kind). go (shows (values j count (drop 3 b)))) e
+
+pub values-length : (k : Kind) (n : ℕ) (d : List ℕ) → n ≡ length (values k n d)
+values-length bit n d = sym (length-part _ 0 n)
+values-length word n d = sym (length-part _ 0 n)
+
+-- ---- the body of a reply
+
+module _ (count : ℕ) (sent : List ℕ) where
+  pub read-of : (a : Ask) → Asks a count sent → 0 < count → (t : Tab) × (getD sent 1 0 ≡ code (reads t)) × (count ≤ mostRead (kindOf t))
+  read-of (read t s n) q h = (t, q .numbered, rw (q .counted) (q .most))
+  read-of (write k a v) q h = absurd (omega (arith, q .counted))
+  read-of (writes k s vs) q h = absurd (omega (arith, q .counted))
+
+  module _ (b out : List ℕ) (r : Reading) (after : List ℕ) where
+    pub weigh-read : (a : Ask) → Asks a count sent → 0 < count
+        → ((t : Tab) (s : ℕ) (l : List ℕ) → getD sent 1 0 ≡ code (reads t) → _≡_ {A = Reading × List ℕ} (r, after) (readInto out (answered (read t s count) l b)))
+        → _≡_ {A = Reading × List ℕ} (r, after) (readInto out (answered a sent b))
+    weigh-read (read t s n) q h f = subst (λ (i : ℕ). _≡_ {A = Reading × List ℕ} (r, after) (readInto out (answered (read t s i) sent b))) (q .counted) (f t s sent (q .numbered))
+    weigh-read (write k a v) q h f = absurd (omega (arith, q .counted))
+    weigh-read (writes k s vs) q h f = absurd (omega (arith, q .counted))
+
+  pub weigh-echo : (a : Ask) (b : List ℕ) → Asks a count sent → ¬ (0 < count) → b ≡ take 6 sent → answered a sent b ≡ go (shows [])
+  weigh-echo (read t s n) b q h e = absurd (omega (arith, h, q .some tt))
+  weigh-echo (write k a v) b q h e = pass _ _ _ e
+  weigh-echo (writes k s vs) b q h e = pass _ _ _ e
+
+  pub weigh-other : (a : Ask) (b : List ℕ) → Asks a count sent → ¬ (0 < count) → ¬ (b ≡ take 6 sent) → answered a sent b ≡ stop notMyReply
+  weigh-other (read t s n) b q h e = absurd (omega (arith, h, q .some tt))
+  weigh-other (write k a v) b q h e = fail _ _ _ e
+  weigh-other (writes k s vs) b q h e = fail _ _ _ e
+
+-- of the unit that was asked, and no exception
+module _ (a : Ask) (sent b : List ℕ) where
+  pub other-unit : ¬ (getD b 0 0 ≡ getD sent 0 0) → heardFrom a sent b ≡ stop notMyReply
+  other-unit n = fail _ _ _ n
+
+  pub own-excepted : getD b 0 0 ≡ getD sent 0 0 → Excepts a b → heardFrom a sent b ≡ go (excepted (getD b 2 0))
+  own-excepted u h = pass _ _ _ u ∙ pick-yes _ _ _ h
+
+  pub own-answered : getD b 0 0 ≡ getD sent 0 0 → ¬ Excepts a b → heardFrom a sent b ≡ answered a sent b
+  own-answered u h = pass _ _ _ u ∙ pick-no _ _ _ h
+
+-- ---- the frame of a reply
+
+pub silent-go : {A : Type 0} (s : Step Silent A) {a : A} → s ≡ go a → orSilent s ≡ go a
+unfolding orSilent
+silent-go s e = rw e
+
+silent-stop : {A : Type 0} (s : Step Silent A) {o : Silent} → s ≡ stop o → orSilent s ≡ stop (silent o)
+unfolding orSilent
+silent-stop s e = rw e
+
+module _ (n : ℕ) (m : Message) (a : Ask) (r : List ℕ) (room : ℕ) where
+  pub replied-full : ¬ (shownCount a ≤ room) → replied n m a r room ≡ stop (silent noRoom)
+  replied-full h = fail _ _ _ h
+
+  module _ (fits : shownCount a ≤ room) where
+    pub replied-none : (o : Silent) → unwrap (protoOf n) r ≡ stop o → replied n m a r room ≡ stop (silent o)
+    replied-none o e = pass _ _ _ fits ∙ halt _ _ (silent-stop _ e)
+
+    module _ (reply : Message) (e : unwrap (protoOf n) r ≡ go reply) where
+      pub replied-other : ¬ (reply .tag ≡ m .tag) → replied n m a r room ≡ stop notMyReply
+      replied-other h = pass _ _ _ fits ∙ follow _ _ (silent-go _ e) ∙ fail _ _ _ (λ q. h (q .0))
+
+      pub replied-body : reply .tag ≡ m .tag → replied n m a r room ≡ heardFrom a (m .body) (reply .body)
+      replied-body t =
+          pass _ _ _ fits ∙ follow _ _ (silent-go _ e)
+          ∙ by-cases (unitOf reply ≟ unitOf m)
+          (λ u. pass _ _ _ (t, u) ∙ sym (pass _ _ _ u))
+          (λ u. fail _ _ _ (λ q. u (q .1)) ∙ sym (fail _ _ _ u))
+
+-- ---- the request that a body says
+
+module _ (n : ℕ) (m : Message) where
+  pub said-goes : (a : Ask) → weighed (everyCell n) false (m .body) ≡ go a → saidBy n m ≡ go (m, a)
+  said-goes a e =
+      went (everyCell n) false (m .body) e λ fn c o l v i q.
+      follow _ _ (find-fn badRequest (numberOf m) (protoOf n) fn c)
+      ∙ or-go _ (pass _ _ _ l ∙ pass _ _ _ v ∙ pass _ _ _ (subst (Inside (everyCell n)) (sym q) i) ∙ ap (λ (x : Ask). go (m, x)) q)
+
+  -- whatever goes through is what the body weighs
+  weighed-said : (fn : Fn) → functionOf n (numberOf m) ≡ go fn → (q : Message × Ask) → fromFunction (everyCell n) m fn ≡ go q
+      → weighed (everyCell n) false (m .body) ≡ go (q .1)
+  unfolding weighed
+  weighed-said fn f q e =
+      needed _ _ _ e λ l e₁. needed _ _ _ e₁ λ v e₂. needed _ _ _ e₂ λ i e₃.
+      let c = found-fn code _ _ _ fn f in
+      let z : (m, asked fn (m .body)) ≡ q = cc in
+      let low : numberOf m ≤ 127 = rw c (code-low fn) in
+      pass _ _ _ low ∙ follow _ _ (find-fn _ (numberOf m) (protoOf n) fn c) ∙ pass _ _ _ (λ h. h .0) ∙ pass _ _ _ l ∙ pass _ _ _ v ∙ pass _ _ _ i
+      ∙ ap (λ (x : Message × Ask). go (x .1)) z
+
+  pub said-stops : (w : Verdict) → weighed (everyCell n) false (m .body) ≡ stop w → saidBy n m ≡ stop badRequest
+  said-stops w e =
+      by-step (functionOf n (numberOf m))
+      (λ fn f. follow _ _ f ∙ by-step (fromFunction (everyCell n) m fn)
+      (λ q g. let h = weighed-said fn f q g in let y : _≡_ {A = ℕ} 0 1 = cc in absurd (omega arith))
+      (λ x g. or-stop _ g))
+      (λ x f. halt _ _ (f ∙ ap stop (sym (found-fault code _ _ _ f))))
+
+  module _ (r : List ℕ) (room : ℕ) where
+    pub replied-said : (a : Ask) → weighed (everyCell n) false (m .body) ≡ go a → repliedTo n m r room ≡ replied n m a r room
+    replied-said a e = follow _ _ (said-goes a e)
+
+    pub replied-unsaid : (w : Verdict) → weighed (everyCell n) false (m .body) ≡ stop w → repliedTo n m r room ≡ stop badRequest
+    replied-unsaid w e = halt _ _ (said-stops w e)
+
+-- what a verdict on it tells
+module _ (n : ℕ) (b : List ℕ) where
+  pub asks-read : (q : ReadCells) (h : FineRead (everyCell n) false b q) → Asks (read (h .tab) (q .address) (q .count)) (q .count) b
+  asks-read q h =
+      record { counted = refl; numbered = h .numbered; some = λ _. h .some; most = h .most; whole = omega (arith, h .whole) }
+
+  pub asks-written : (k : Kind) (c : Cells) (h : FineWrite k (everyCell n) false b c) → Asks (asked (h .fn) b) 0 b
+  asks-written k c h =
+      record {
+        counted = counted (asked (h .fn) b) (h .stores);
+        numbered = h .numbered ∙ ap code (sym (fn-asked (h .fn) b));
+        some = λ i. absurd (unread (asked (h .fn) b) (h .stores) i);
+        most = most (asked (h .fn) b) (h .stores);
+        whole = h .whole;
+      }
+    where
+      counted : {vs : List ℕ} (a : Ask) → Stores k (c .address) vs a → 0 ≡ shownCount a
+      counted (read t s n) (inl (v, e, w)) = let z : _≡_ {A = ℕ} 0 1 = cc in absurd (omega arith)
+      counted (read t s n) (inr e) = let z : _≡_ {A = ℕ} 0 1 = cc in absurd (omega arith)
+      counted (write j a v) s = refl
+      counted (writes j a vs) s = refl
+
+      unread : {vs : List ℕ} (a : Ask) → Stores k (c .address) vs a → IsRead (fnOf a) → ⊥
+      unread (read t s n) (inl (v, e, w)) i = let z : _≡_ {A = ℕ} 0 1 = cc in omega arith
+      unread (read t s n) (inr e) i = let z : _≡_ {A = ℕ} 0 1 = cc in omega arith
+      unread (write j a v) s i = i
+      unread (writes j a vs) s i = i
+
+      most : {vs : List ℕ} (a : Ask) → Stores k (c .address) vs a → AtMost a
+      most (read t s n) (inl (v, e, w)) = let z : _≡_ {A = ℕ} 0 1 = cc in absurd (omega arith)
+      most (read t s n) (inr e) = let z : _≡_ {A = ℕ} 0 1 = cc in absurd (omega arith)
+      most (write j a v) s = tt
+      most (writes j a vs) s = tt
+
+-- ---- the frame of a request
+
+module _ (n : ℕ) (f r : List ℕ) (room : ℕ) where
+  pub transport-high : ¬ (n ≤ 2) → understood n f r room ≡ stop badRequest
+  unfolding understood
+  transport-high h = fail _ _ _ h
+
+  module _ (h : n ≤ 2) where
+    pub unopened : (o : Silent) → unwrap (protoOf n) f ≡ stop o → understood n f r room ≡ stop badRequest
+    unfolding understood sentAs
+    unopened o e = pass _ _ _ h ∙ halt _ _ (halt _ _ (or-stop _ e))
+
+    pub opened-to : (m : Message) → unwrap (protoOf n) f ≡ go m → understood n f r room ≡ repliedTo n m r room
+    unfolding understood sentAs
+    opened-to m e =
+        pass _ _ _ h ∙ ap (λ (s : Step Declined (Message × Ask)). s >>= λ q. replied n (q .0) (q .1) r room) (follow _ _ (or-go _ e))
+
+-- a part of what a frame was opened from
+pub part-same : (start n k : ℕ) (s s′ : List ℕ) → start ≡ k → s ≡ s′ → take ((start + n) - start) (drop start s) ≡ take n (drop k s′)
+part-same start n k s s′ e f = let z : (start + n) - start ≡ n = omega arith in rw (z, e, f)
+
+pub part-long : (source : List ℕ) (start n : ℕ) → 2 ≤ n → start + n ≤ length source → 2 ≤ length (take ((start + n) - start) (drop start source))
+part-long source start n h k = simp (length-take, length-drop) (omega arith)
+
+pub tags-same : (n a b c d : ℕ) → 2 ≤ n → tagOf (protoOf n) a b ≡ tagOf (protoOf n) c d → (a ≡ c) × (b ≡ d)
+tags-same n a b c d h e =
+    let z : a ∷ b ∷ [] ≡ c ∷ d ∷ [] = sym (tag-two n a b h) ∙ e ∙ tag-two n c d h in
+    (head-eq-of-cons-eq z, head-eq-of-cons-eq (tail-eq-of-cons-eq z))
+
+-- all behind the head
+pub behind-head : (b : List ℕ) → take (length b - 3) (drop 3 b) ≡ drop 3 b
+behind-head b = ap (λ (n : ℕ). take n (drop 3 b)) (sym (length-drop 3 b)) ∙ take-length (drop 3 b)
+
+-- a write that was said, whatever its kind
+pub record Said (n : ℕ) (b : List ℕ) : Type 0 where
+  pub ask : Ask
+  pub asks : Asks ask 0 b
+  pub goes : weighed (everyCell n) false b ≡ go ask
+
+pub written-said : (n : ℕ) (b : List ℕ) (w : Write) → Fine (everyCell n) false b (Written w) → Said n b
+written-said n b (Bits c) h = record { ask = asked (h .fn) b; asks = asks-written n b bit c h; goes = h .goes }
+written-said n b (Words c) h = record { ask = asked (h .fn) b; asks = asks-written n b word c h; goes = h .goes }

@@ -1,0 +1,5 @@
+pub mod LayLaws
+pub mod BuildLaws
+pub mod CloseLaws
+pub mod HearLaws
+pub mod Unique

@@ -1,0 +1,209 @@
+-- The asking side (document 02, 2026-02): the requests that can be built and their frames; the request that a frame says; and what a reply to it
+-- says. Requests, answers and frames are those of Request, Decode and Frame: there is no second encoding.
+-- Assumes nothing.
+use mathlib.Core.Path.{_≡_}
+use mathlib.Core.List.{List, [], _∷_}
+use Prim.Native.Nat.{ℕ, suc, _+_, _-_, _*_, _/_, _%_, _≤_}
+use lib.ListN.{length, take, drop, getD, replicate}
+use lib.Seq.{sets}
+use Rattle.modbus.specs.Step.{Step, stop, go, _>>=_, _>>_, need, choose, _≤?_, _≟_, _and?_, same?}
+use Rattle.modbus.specs.Bytes.{All}
+use Rattle.modbus.specs.Table.{Kind, bit, word, kindOf, Fits}
+use Rattle.modbus.specs.Request.{Fn, reads, one, many, code, offered, Ask, read, write, writes, fnOf, mostRead, mostWritten, Permitted, octets, pdu}
+use Rattle.modbus.specs.Storage.{values}
+use Rattle.modbus.specs.Paper.{protoOf}
+use Rattle.modbus.specs.Setup.{Setup}
+use Rattle.modbus.specs.Frame.{wrap, tagOf}
+use Rattle.modbus.specs.Decode.{Message, unitOf, numberOf, Silent, noRoom, outcomeOf, unwrap}
+use Rattle.modbus.specs.Drive.{find, inside?, fromFunction}
+use Rattle.modbus.specs.declared.Answer.{Answer}
+use Rattle.client.specs.declared.ModbusRequest.{ModbusRequest}
+use Rattle.client.specs.declared.Reading.{Reading}
+
+-- ---- refusals: BadRequest and NotMyReply are the asking side's own; NoRoom, FrameBroken and FrameCheck are document 01's
+
+pub data Declined : Type 0 where
+  badRequest notMyReply : Declined
+  silent : Silent → Declined
+
+abbrev pub declinedBy : Declined → ℕ
+declinedBy badRequest = 11
+declinedBy notMyReply = 12
+declinedBy (silent o) = outcomeOf o
+
+-- whatever stops it, it is no request
+unfoldable pub orBadRequest : {F A : Type 0} → Step F A → Step Declined A
+orBadRequest (stop x) = stop badRequest
+orBadRequest (go a) = go a
+
+unfoldable pub orSilent : {A : Type 0} → Step Silent A → Step Declined A
+orSilent (stop o) = stop (silent o)
+orSilent (go a) = go a
+
+-- ---- what may be asked: document 01's value rules, and no cell beyond 65,535
+
+unfoldable pub fits? : (k : Kind) (v : ℕ) → Dec (Fits k v)
+fits? bit v = v ≤? 1
+fits? word v = suc v ≤? 65536
+
+unfoldable pub allFit? : (k : Kind) (vs : List ℕ) → Dec (All (Fits k) vs)
+allFit? k [] = yes tt
+allFit? k (v ∷ vs) = fits? k v and? allFit? k vs
+
+unfoldable pub three? : {P Q R : Type 0} → Dec P → Dec Q → Dec R → Dec (P × Q × R)
+three? (yes p) (yes q) (yes r) = yes (p, q, r)
+three? (yes p) (yes q) (no r) = no (λ h. r (h .2))
+three? (yes p) (no q) r = no (λ h. q (h .1))
+three? (no p) q r = no (λ h. p (h .0))
+
+unfoldable pub permitted? : (a : Ask) → Dec (Permitted a)
+permitted? (read t s n) = (1 ≤? n) and? (n ≤? mostRead (kindOf t))
+permitted? (write k a v) = fits? k v
+permitted? (writes k s vs) = three? (1 ≤? length vs) (length vs ≤? mostWritten k) (allFit? k vs)
+
+-- a unit with all the cells that can be named
+abbrev pub everyCell : ℕ → Setup
+everyCell n = record { transport = n; unit = 0; broadcasts = []; cells = λ tab. 65536; bytes = λ tab. 131072; room = 511 }
+
+-- ---- building
+
+-- whom to ask: the transaction number, the unit, the transport's number
+abbrev pub asker : ℕ → ℕ → ℕ → ModbusRequest
+asker tr u n = record { «tr_id» = tr; «unit_id» = u; proto = n }
+
+abbrev pub functionOf : ℕ → ℕ → Step Declined Fn
+functionOf n func = find code badRequest func (offered (protoOf n))
+
+-- functions 1 to 4 read
+abbrev pub readBy : ℕ → ℕ → Fn → Step Declined Ask
+readBy reg count (reads t) = go (read t reg count)
+readBy reg count (one k) = stop badRequest
+readBy reg count (many k) = stop badRequest
+
+-- functions 5 and 6 write exactly one value, 15 and 16 as many as there are
+abbrev pub writeBy : ℕ → List ℕ → Fn → Step Declined Ask
+writeBy reg vs (reads t) = stop badRequest
+writeBy reg [] (one k) = stop badRequest
+writeBy reg (v ∷ []) (one k) = go (write k reg v)
+writeBy reg (v ∷ w ∷ vs) (one k) = stop badRequest
+writeBy reg vs (many k) = go (writes k reg vs)
+
+unfoldable pub getting : ℕ → ℕ → ℕ → ℕ → Step Declined Ask
+getting n func reg count = functionOf n func >>= readBy reg count
+
+unfoldable pub setting : ℕ → ℕ → ℕ → List ℕ → Step Declined Ask
+setting n func reg vs = functionOf n func >>= writeBy reg vs
+
+-- pad bits are zero
+abbrev pub padding : Ask → List ℕ
+padding (read t s n) = []
+padding (write k a v) = []
+padding (writes bit s vs) = replicate (8 * octets bit (length vs) - length vs) 0
+padding (writes word s vs) = []
+
+-- the body of a request to a unit, and its frame, in which TCP has the transaction number
+abbrev pub bodyTo : ModbusRequest → Ask → List ℕ
+bodyTo to a = to .«unit_id» ∷ pdu a (padding a)
+
+abbrev pub tagTo : ModbusRequest → List ℕ
+tagTo to = tagOf (protoOf (to .proto)) (to .«tr_id» / 256) (to .«tr_id» % 256)
+
+abbrev pub frameTo : ModbusRequest → Ask → List ℕ
+frameTo to a = wrap (protoOf (to .proto)) (tagTo to) (bodyTo to a)
+
+-- the frame of what is wanted, or the first reason why there is none
+unfoldable pub generated : ModbusRequest → Step Declined Ask → ℕ → Step Declined (List ℕ)
+generated to wanted room = do
+  need (to .proto ≤? 2) badRequest
+  a ← wanted
+  need (permitted? a) badRequest
+  need (inside? (everyCell (to .proto)) a) badRequest
+  need (length (frameTo to a) ≤? room) (silent noRoom)
+  go (frameTo to a)
+
+-- the answer in numbers, and what the lent buffer then holds: the frame in front, and a refusal leaves it as lent
+abbrev pub laidInto : List ℕ → Step Declined (List ℕ) → Answer × List ℕ
+laidInto out (go f) = (record { value = length f; kind = 0 }, sets out 0 f)
+laidInto out (stop x) = (record { value = 0; kind = declinedBy x }, out)
+
+-- ---- the request that a frame says: read as a server reads it, of which every cell is asked
+
+abbrev pub saidBy : ℕ → Message → Step Declined (Message × Ask)
+saidBy n m = functionOf n (numberOf m) >>= λ fn. orBadRequest (fromFunction (everyCell n) m fn)
+
+unfoldable pub sentAs : ℕ → List ℕ → Step Declined (Message × Ask)
+sentAs n f = orBadRequest (unwrap (protoOf n) f) >>= saidBy n
+
+-- ---- reading
+
+-- what a reply says: the values of the cells read, none after a write; or the code of an exception
+pub data Reply : Type 0 where
+  shows : List ℕ → Reply
+  excepted : ℕ → Reply
+
+-- how many values a reply to it shows
+abbrev pub shownCount : Ask → ℕ
+shownCount (read t s n) = n
+shownCount (write k a v) = 0
+shownCount (writes k s vs) = 0
+
+-- an exception to it (APP 7): three bytes, the function's number with its highest bit set, and a code from 1 on
+abbrev pub Excepts : Ask → List ℕ → Type 0
+Excepts a b = (length b ≡ 3) × ((getD b 1 0 ≡ code (fnOf a) + 128) × (1 ≤ getD b 2 0))
+
+unfoldable pub excepts? : (a : Ask) (b : List ℕ) → Dec (Excepts a b)
+excepts? a b = (length b ≟ 3) and? (getD b 1 0 ≟ code (fnOf a) + 128) and? (1 ≤? getD b 2 0)
+
+-- an answer to it: of a read the function, the byte count that the cells asked take, and as many bytes; of a write the first six bytes of its
+-- body again
+abbrev pub Answers : Ask → List ℕ → List ℕ → Type 0
+Answers (read t s n) sent b =
+    (length b ≡ 3 + octets (kindOf t) n) × ((getD b 1 0 ≡ code (reads t)) × (getD b 2 0 ≡ octets (kindOf t) n))
+Answers (write k a v) sent b = b ≡ take 6 sent
+Answers (writes k s vs) sent b = b ≡ take 6 sent
+
+unfoldable pub answers? : (a : Ask) (sent b : List ℕ) → Dec (Answers a sent b)
+answers? (read t s n) sent b =
+    (length b ≟ 3 + octets (kindOf t) n) and? (getD b 1 0 ≟ code (reads t)) and? (getD b 2 0 ≟ octets (kindOf t) n)
+answers? (write k a v) sent b = same? b (take 6 sent)
+answers? (writes k s vs) sent b = same? b (take 6 sent)
+
+-- the values that an answer holds; pad bits are not looked at
+abbrev pub heldIn : Ask → List ℕ → List ℕ
+heldIn (read t s n) b = values (kindOf t) n (drop 3 b)
+heldIn (write k a v) b = []
+heldIn (writes k s vs) b = []
+
+abbrev pub answered : Ask → List ℕ → List ℕ → Step Declined Reply
+answered a sent b = need (answers? a sent b) notMyReply >> go (shows (heldIn a b))
+
+abbrev pub heard : Ask → List ℕ → List ℕ → Step Declined Reply
+heard a sent b = choose (excepts? a b) (go (excepted (getD b 2 0))) (answered a sent b)
+
+-- of the same transaction and unit
+abbrev pub Mine : Message → Message → Type 0
+Mine m r = (r .tag ≡ m .tag) × (unitOf r ≡ unitOf m)
+
+abbrev pub mine? : (m r : Message) → Dec (Mine m r)
+mine? m r = same? (r .tag) (m .tag) and? (unitOf r ≟ unitOf m)
+
+-- what a frame says as a reply to this message, which asks this, where there is room for so many values
+abbrev pub replied : ℕ → Message → Ask → List ℕ → ℕ → Step Declined Reply
+replied n m a r room = do
+  need (shownCount a ≤? room) (silent noRoom)
+  reply ← orSilent (unwrap (protoOf n) r)
+  need (mine? m reply) notMyReply
+  heard a (m .body) (reply .body)
+
+-- and as a reply to a request's frame
+unfoldable pub understood : ℕ → List ℕ → List ℕ → ℕ → Step Declined Reply
+understood n f r room = do
+  need (n ≤? 2) badRequest
+  q ← sentAs n f
+  replied n (q .0) (q .1) r room
+
+-- the answer in numbers, and what the lent values then are: those shown in front, and else all as lent
+abbrev pub readInto : List ℕ → Step Declined Reply → Reading × List ℕ
+readInto out (go (shows vs)) = (record { count = length vs; outcome = 0; code = 0 }, sets out 0 vs)
+readInto out (go (excepted c)) = (record { count = 0; outcome = 2; code = c }, out)
+readInto out (stop x) = (record { count = 0; outcome = declinedBy x; code = 0 }, out)
