@@ -4,14 +4,14 @@
 #include "rows.h"
 
 static _Alignas(PAGE) uint8_t coils[8192], discretes[8192], holdings[131072], inputs[131072],
-    answer[DALONJANG_REPLY_ROOM_ASCII];
+    answer[DALONJANG_REPLY_ROOM_ASCII], collector[DALONJANG_COLLECTOR];
 static const uint8_t everyone[] = {0};
 
 static struct dalonjang_unit unit; /* made before the first call of a row, as firmware makes it once */
 
 static int start(const struct row *row) {
     size_t cells = row->cells, bits = (cells + 7) / 8;
-    unit = (struct dalonjang_unit){{(uint8_t)row->kind, UNIT, cells, cells, cells, cells}, everyone, sizeof everyone,
+    unit = (struct dalonjang_unit){{row->kind > CRC ? DALONJANG_RTU : (uint8_t)row->kind, UNIT, cells, cells, cells, cells}, everyone, sizeof everyone,
         coils, bits, discretes, bits, holdings, 2 * cells, inputs, 2 * cells};
     return cells <= DALONJANG_MOST_CELLS;
 }
@@ -24,6 +24,15 @@ static inline size_t serve(const struct row *row, const struct line *request) {
 }
 
 static uint16_t crc(const uint8_t *bytes, size_t n) { return probe_calc_crc16(bytes, n, (uint8_t)n); }
+
+#define COLLECTS
+static inline size_t take(const uint8_t *bytes, size_t n) {
+    return dalonjang_offer(collector, sizeof collector, bytes, n).value;
+}
+static inline void hold(size_t n) { collector[0] = 0, collector[1] = (uint8_t)n; }
+static inline size_t close(void) {
+    return dalonjang_serve_quiet(&unit, collector, sizeof collector, answer, sizeof answer).length;
+}
 
 #define ASKS
 static struct dalonjang_request to = {7, UNIT, 0};

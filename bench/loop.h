@@ -3,6 +3,10 @@
  *     serve(row, line)  one request; the reply's length
  *     reply()           where the last reply stands
  *     crc(bytes, n)     the server's CRC
+ * and, where it has a collector, COLLECTS and
+ *     take(bytes, n)    bytes offered; how many are held then
+ *     hold(n)           n bytes are held, which stand there already
+ *     close()           the line is quiet; the reply's length
  * and, where ASKS is defined, of its asking side
  *     ready(row)        what is asked is known; as a client keeps it
  *     build(row)        one request; its length, at `built`
@@ -129,6 +133,47 @@ static void measure_nothing(void) {
     for (int i = 0; i < 4; i++) bench_mark();
 }
 
+#ifdef COLLECTS
+__attribute__((noinline)) static void make_offers(const uint8_t *bytes, size_t n, int calls) {
+    volatile size_t held;
+    hold(0);
+    bench_mark();
+    for (int i = 0; i < calls; i++) held = take(bytes, n);
+    bench_mark();
+    if (held != n * (size_t)calls) puts("a wrong number is held"), exit(1);
+}
+
+__attribute__((noinline)) static void make_quiets(size_t n, int calls) {
+    bench_mark();
+    for (int i = 0; i < calls; i++) hold(n), close();
+    bench_mark();
+}
+
+static void measure_collector(const struct row *row) {
+    static struct line request;
+    struct row whole = *row;
+    whole.kind = RTU;
+    request = request_of(&whole);
+    if (row->kind == OFFER) {
+        make_offers(request.bytes, row->count, FEW);
+        make_offers(request.bytes, row->count, 2 * FEW);
+        return;
+    }
+    struct line wanted = reply_of(&whole);
+    try_row(&whole);
+    hold(0);
+    take(request.bytes, request.len);
+    if (close() != wanted.len || memcmp(reply(), wanted.bytes, wanted.len) != 0) puts("wrong reply"), exit(1);
+    make_quiets(request.len, FEW);
+    make_quiets(request.len, 2 * FEW);
+}
+#else
+static void measure_collector(const struct row *row) {
+    (void)row;
+    measure_nothing();
+}
+#endif
+
 int main(void) {
     static const char *const kinds[] = {"rtu", "ascii", "tcp", "crc", "offer", "quiet"};
     static const char *const hows[] = {"ours", "foreign", "broadcast", "spoilt", "built", "heard"};
@@ -148,6 +193,8 @@ int main(void) {
             measure_asking(&row);
         } else if (row.kind == CRC) {
             measure_crc(&row);
+        } else if (row.kind > CRC) {
+            measure_collector(&row);
         } else {
             measure_row(&row);
         }

@@ -4,7 +4,9 @@
 #include <stddef.h>
 #include <stdint.h>
 
-enum { RTU, ASCII, TCP, CRC }; /* the numbers of include/dalonjang.h; and the check alone, of `count` bytes */
+/* The numbers of include/dalonjang.h; and the check alone, of `count` bytes; and those of a collector: `count` bytes
+ * offered, and a quiet line with the request as an RTU frame held. */
+enum { RTU, ASCII, TCP, CRC, OFFER, QUIET };
 enum { UNIT = 1, OTHER_UNIT = 2, EVERYONE = 0, MOST = 520 };
 /* To our unit; to another; to all; to ours, with a wrong check; built by the asking side, its reply read there. */
 enum { OURS, FOREIGN, BROADCAST, SPOILT, BUILT, HEARD };

@@ -68,40 +68,63 @@ proved_module() {
     local crate=$1 kept=$PWD/target/lib/$1.bc made=target/staticlib/lib$1.a
     mkdir -p target/lib out
     rt check "$crate" || return
-    [ "$kept" -nt "target/stamp/$crate" ] && [ "$made" -nt "target/stamp/$crate" ] && [ ! "$made" -nt "$kept" ] && return
+    [ "$kept" -nt "target/stamp/$crate" ] && [ "$made" -nt "target/stamp/$crate" ] && return
     rm -f "$kept" "$made"
     RATTLE_HOME=$(keeping_kit "$kept.new") rt staticlib "$crate" && [ -e "$made" ] && mv "$kept.new" "$kept" &&
         touch "$kept"
 }
 
+# parts_of CRATE: the objects of its library. Each has some of the calls, and what they take of the module: the compiler
+# writes a large function in place only where it has one call, so that serving costs nothing for what else is there, and
+# firmware links only what it calls.
+parts_of() {
+    case $1 in dalonjang) echo serve uart ask ;; *) echo all ;; esac
+}
+
+# calls_of PART <CALLS: those that it has
+calls_of() {
+    case $1 in
+    uart) grep -E '_(offer|quiet)$' ;;
+    ask) grep -E '_(generate_get|generate_set|parse_response)$' ;;
+    serve) grep -vE '_(offer|quiet|generate_get|generate_set|parse_response)$' ;;
+    all) cat ;;
+    esac
+}
+
 # make_library CRATE INCLUDE TARGET FOLDER: FOLDER/libCRATE.a of target/lib/CRATE.bc, with the calls of INCLUDE/CRATE.h
 make_library() {
-    local crate=$1 include=$2 target=$3 folder=$4 made c=(-nostdinc -isystem "$std" -I"$(realpath "$2")")
+    local crate=$1 include=$2 target=$3 folder=$4 made part objects=() c=(-nostdinc -isystem "$std" -I"$(realpath "$2")")
     rm -rf "$folder"
     mkdir -p "$folder/made"
     made=$folder/made
-    if [ "$target" = x86_64 ]; then # the kit's own, which follows x86-64's calling convention
-        cp "target/staticlib/lib$crate.a" "$folder/"
-        return
-    fi
     write_std
-    for_target "$target" -S -emit-llvm -x c /dev/null -o "$made/empty.ll" &&
-        for_target x86_64 -S -emit-llvm -x ir "target/lib/$crate.bc" -Xclang -disable-llvm-passes -o "$made/proved.ll" &&
-        for_target x86_64 "${c[@]}" -x c -fsyntax-only -Xclang -ast-dump=json "$include/$crate.h" >"$made/header.json" &&
-        "${BOUNDARY:-$root/bin/boundary}" "$crate" "$made/header.json" "$made/proved.ll" "$made/empty.ll" "$made" &&
-        for_target x86_64 "${c[@]}" -fsyntax-only "$made/layout.c" &&
-        for_target "$target" -c -emit-llvm -x ir "$made/module.ll" -Xclang -disable-llvm-passes -o "$made/module.bc" &&
-        (cd "$made" && for_target "$target" "${c[@]}" -Wall -Wextra -fomit-frame-pointer \
-            -fno-asynchronous-unwind-tables -fstack-usage -Xclang -mlink-builtin-bitcode -Xclang module.bc \
-            -c boundary.c -o "$crate.o") &&
-        "$tools/llvm-ar" rcsD "$folder/lib$crate.a" "$made/$crate.o"
+    for_target x86_64 -S -emit-llvm -x ir "target/lib/$crate.bc" -Xclang -disable-llvm-passes -o "$made/proved.ll" &&
+        sed -nE 's/^define [^@]*@([a-z_0-9]+)\(.*/\1/p' "$made/proved.ll" >"$made/calls" || return
+    if [ "$target" != x86_64 ]; then
+        for_target "$target" -S -emit-llvm -x c /dev/null -o "$made/empty.ll" &&
+            for_target x86_64 "${c[@]}" -x c -fsyntax-only -Xclang -ast-dump=json "$include/$crate.h" >"$made/header.json" &&
+            "${BOUNDARY:-$root/bin/boundary}" "$crate" "$made/header.json" "$made/proved.ll" "$made/empty.ll" "$made" &&
+            for_target x86_64 "${c[@]}" -fsyntax-only "$made/layout.c" &&
+            for_target "$target" -c -emit-llvm -x ir "$made/module.ll" -Xclang -disable-llvm-passes -o "$made/module.bc" || return
+    fi
+    for part in $(parts_of "$crate"); do
+        make_part "$target" "$part" || return
+        objects+=("$made/$part.o")
+    done
+    "$tools/llvm-ar" rcsD "$folder/lib$crate.a" "${objects[@]}"
 }
 
-# stack_of_x86 CRATE FOLDER: FOLDER/made/CRATE.o and .su: the same object once more, with what clang says of its stack; an
-# error where it is not what the kit's library has
-stack_of_x86() {
-    local made=$2/made
-    mkdir -p "$made" && cp "target/lib/$1.bc" "$made/module.bc" &&
-        (cd "$made" && for_target x86_64 -fstack-usage -c -x ir module.bc -o "$1.o") &&
-        (cd "$made" && "$tools/llvm-ar" p ../lib"$1".a) | cmp - "$made/$1.o"
+# make_part TARGET PART: the object of these calls, and what clang says of its stack. On x86-64 the module has them as they
+# are called there, and those of other parts are kept to itself; elsewhere each call has its own piece of boundary.c.
+make_part() {
+    local target=$1 part=$2 call own=''
+    for call in $(calls_of "$part" <"$made/calls"); do own="$own|$call"; done
+    if [ "$target" = x86_64 ]; then
+        sed -E "/@(${own#|})\\(/!s/^define (\{|void|i[0-9])/define internal \\1/" "$made/proved.ll" >"$made/$part.ll" &&
+            (cd "$made" && for_target x86_64 -fstack-usage -c -x ir "$part.ll" -o "$part.o")
+    else
+        (cd "$made" && for_target "$target" "${c[@]}" -Wall -Wextra -fomit-frame-pointer \
+            -fno-asynchronous-unwind-tables -fstack-usage -Xclang -mlink-builtin-bitcode -Xclang module.bc \
+            $(calls_of "$part" <calls | sed 's/^/-DWITH_/') -c boundary.c -o "$part.o")
+    fi
 }

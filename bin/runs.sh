@@ -73,18 +73,18 @@ need_kit() {
     [ "$here" = "$kit_wanted" ] || echo "$(basename "$0"): the kit here is $here, where $kit_wanted was in use" >&2
 }
 
-# below CRATE: it and the crates of this repository that it is built on, a line each, with what each is built on
+# below CRATE..: they and the crates of this repository that they are built on, a line each, with what each is built on
 below() {
-    tac crates.txt | awk -v wanted="$1" '
+    tac crates.txt | awk -v wanted=" $* " '
         { name = $1; sub(":", "", name) }
-        name == wanted { need[name] = 1 }
+        index(wanted, " " name " ") { need[name] = 1 }
         need[name] { for (i = 2; i <= NF; i++) need[$i] = 1; print }' | tac
 }
 
-# progress CRATE <WHAT RT SAYS: where nothing was said for two seconds, how many crates are proved and which is next
+# progress CRATE.. <WHAT RT SAYS: where nothing was said for two seconds, how many crates are proved and which is next
 progress() {
     local line name needs each proved=' ' said='' next status all
-    all=$(below "$1")
+    all=$(below "$@")
     while true; do
         status=0
         read -r -t 2 line || status=$?
@@ -104,21 +104,27 @@ progress() {
     done
 }
 
-# prove_crate CRATE: proved where it is not yet, or has changed; that takes minutes the first time
-prove_crate() {
+# prove CRATE..: proved where they are not yet, or have changed; that takes minutes the first time
+prove() {
     need_kit
-    rt check "$1" 2>&1 | tee out/proved.log | progress "$1" >&2 || { cat out/proved.log >&2; fail "not proved: $1"; }
+    rt check "$@" 2>&1 | tee out/proved.log | progress "$@" >&2 || { cat out/proved.log >&2; fail "not proved: $*"; }
 }
 
-# library CRATE..: $LIB, or the libraries of these crates for x86-64. What is proved is not proved again, nor is a
-# library made again that is younger than the proof.
+# library CRATE..: $LIB, or the libraries of these crates for x86-64, from the sources as they stand. What is proved is not
+# proved again, nor is a library made again that is younger than the proof.
 library() {
     local crate made
     if [ -z "${LIB:-}" ]; then
         for crate in "$@"; do
             made=target/staticlib/lib$crate.a
-            prove_crate "$crate"
-            [ "$made" -nt "target/stamp/$crate" ] || logged staticlib rt staticlib "$crate"
+            if [ "$crate" = dalonjang ]; then
+                prove dalonjang
+                logged lib bin/lib x86_64
+                made=target/lib/x86_64/libdalonjang.a
+            else
+                prove "$crate"
+                [ "$made" -nt "target/stamp/$crate" ] || logged staticlib rt staticlib "$crate"
+            fi
             LIB="${LIB:-} $made"
         done
     fi
@@ -127,7 +133,7 @@ library() {
 # machine_library: $LIB, or the library for this machine's processor, from the sources as they stand
 machine_library() {
     if [ -z "${LIB:-}" ]; then
-        prove_crate dalonjang
+        prove dalonjang
         logged lib bin/lib
         LIB=target/lib/$(uname -m)/libdalonjang.a
     fi

@@ -4,12 +4,21 @@
 
 # measure_libraries: out/targets/TARGET/figures for each
 measure_libraries() {
-    local target made
-    stack_of_x86 dalonjang "$room/x86_64/lib/dalonjang" || return
+    local target made part
     for target in $targets; do
         made=$room/$target/lib/dalonjang/made
-        bin/figures "$made/dalonjang.o" "$made/dalonjang.su" >"$room/$target/figures" || return
+        for part in $(parts_of dalonjang); do
+            bin/figures "$made/$part.o" "$made/$part.su" || return
+        done | added_up >"$room/$target/figures" || return
     done
+}
+
+# added_up <FIGURES OF EACH PART: those of all together
+added_up() {
+    awk '$1 == "function" || $1 == "stack" { print; next }
+        $1 == "outside" { for (i = 2; i <= NF; i++) if (!taken[$i]++) outside = outside " " $i; next }
+        { if (!($1 in sum)) order[++n] = $1; sum[$1] += $2 }
+        END { for (i = 1; i <= n; i++) print order[i], sum[order[i]]; print "outside" outside }'
 }
 
 # figure TARGET WORD..: the rest of the line that begins with these words

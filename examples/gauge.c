@@ -2,13 +2,13 @@
  * pressure points (holdings 0 to 7), the dash reads the pressure (input 0) and the warning lamp (discrete 0), and says
  * whether it wants the lamp (coil 0).
  *
- * The board calls uart_byte() for each byte that comes, line_quiet() when none came for 3.5 characters, and pressure()
- * with each measurement; it has uart_send(). All of them in one thread, or with the interrupt off. */
+ * The board calls uart_bytes() with what an interrupt brings, line_quiet() when nothing came for 3.5 characters, and
+ * pressure() with each measurement; it has uart_send(). The UART's interrupt is off while line_quiet() runs. */
 #include "dalonjang.h"
 
 void uart_send(const uint8_t *bytes, size_t len); /* the board's */
 
-enum { UNIT = 1, POINTS = 8, MOST = 256 };
+enum { UNIT = 1, POINTS = 8 };
 
 static const uint8_t everyone[] = {0};
 static uint8_t lamp_wanted[1], lamp[1], points[2 * POINTS], reading[2]; /* the four tables */
@@ -18,16 +18,12 @@ static const struct dalonjang_unit gauge = {
     .list = everyone, .list_len = sizeof everyone, .coils = lamp_wanted, .coils_len = sizeof lamp_wanted,
     .discretes = lamp, .discretes_len = sizeof lamp, .holdings = points, .holdings_len = sizeof points,
     .inputs = reading, .inputs_len = sizeof reading};
-static uint8_t frame[MOST + 1], reply[DALONJANG_REPLY_ROOM];
-static size_t have;
+static uint8_t collector[DALONJANG_COLLECTOR], reply[DALONJANG_REPLY_ROOM];
 
-void uart_byte(uint8_t byte) {
-    if (have <= MOST) frame[have++] = byte; /* one byte too many is kept, so that the frame is refused */
-}
+void uart_bytes(const uint8_t *bytes, size_t len) { dalonjang_offer(collector, sizeof collector, bytes, len); }
 
 void line_quiet(void) {
-    struct dalonjang_result r = dalonjang_serve(&gauge, frame, have, reply, sizeof reply);
-    have = 0;
+    struct dalonjang_result r = dalonjang_serve_quiet(&gauge, collector, sizeof collector, reply, sizeof reply);
     if (r.length > 0) uart_send(reply, r.length);
 }
 

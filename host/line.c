@@ -42,6 +42,7 @@ static void lose(struct line *l, struct station *s, int64_t now) {
     close(l->fd);
     l->fd = -1;
     l->have = l->pieces = l->out.left = 0;
+    memset(l->collector, 0, sizeof l->collector);
     l->paused = 0;
     l->since = now;
 }
@@ -55,27 +56,40 @@ static void try_again(struct line *l, struct station *s, int64_t now) {
 
 /* --- frames ------------------------------------------------------------------------------------------------------- */
 
-/* The first `len` of the bytes that are held go to the driver as one frame. */
-static void serve(struct line *l, size_t len, struct station *s) {
+static const uint8_t *held(const struct line *l) { return l->collector + 2; }
+
+/* ASCII: what is held is one frame. */
+static void serve_ascii(struct line *l, struct station *s) {
     struct outbox *out = &l->out;
-    out->left += station_serve(s, l->name, l->transport, l->in, len, outbox_end(out), outbox_room(out)).length;
+    out->left += station_serve(s, l->name, l->transport, l->in, l->have, outbox_end(out), outbox_room(out)).length;
+    l->have = 0;
+}
+
+/* RTU: the first `len` of the bytes that are held are one frame, after which the line was quiet; the others are offered
+ * anew. */
+static void serve_rtu(struct line *l, size_t len, struct station *s) {
+    struct outbox *out = &l->out;
+    uint8_t bytes[DALONJANG_COLLECTOR];
+    memcpy(bytes, held(l), l->have);
+    memset(l->collector, 0, sizeof l->collector);
+    dalonjang_offer(l->collector, sizeof l->collector, bytes, len);
+    out->left += station_quiet(s, l->name, l->collector, len, outbox_end(out), outbox_room(out)).length;
     l->have -= len;
-    memmove(l->in, l->in + len, l->have);
+    dalonjang_offer(l->collector, sizeof l->collector, bytes + len, l->have);
     size_t gone = 0;
     while (gone < l->pieces && l->piece[gone] <= len) gone++;
     l->pieces -= gone;
     for (size_t i = 0; i < l->pieces; i++) l->piece[i] = l->piece[gone + i] - len;
 }
 
-/* RTU: every byte up to the silence is one frame, and what came after a pause is remembered as a piece. Where the
- * pieces are too long together, the first was a frame by itself. The byte after the most makes a frame FrameBroken; no
- * more are held. */
+/* RTU: every byte up to the silence is one frame, which the library collects; what came after a pause is remembered as a
+ * piece. Where the pieces are too long together, the first was a frame by itself. */
 static void collect_rtu(struct line *l, const uint8_t *bytes, size_t len, struct station *s) {
-    if (l->paused && l->pieces == MOST_PIECES) serve(l, l->piece[0], s);
+    if (l->paused && l->pieces == MOST_PIECES) serve_rtu(l, l->piece[0], s);
     if (l->paused) l->piece[l->pieces++] = l->have;
     l->paused = 0;
-    while (l->pieces > 0 && l->have + len > RTU_MOST) serve(l, l->piece[0], s);
-    for (size_t i = 0; i < len && l->have <= RTU_MOST; i++) l->in[l->have++] = bytes[i];
+    while (l->pieces > 0 && l->have + len > RTU_MOST) serve_rtu(l, l->piece[0], s);
+    l->have = dalonjang_offer(l->collector, sizeof l->collector, bytes, len).value;
 }
 
 /* SER 6.2.2: over a frame and its own CRC the CRC is 0. */
@@ -94,16 +108,16 @@ static int is_whole(const uint8_t *bytes, size_t len) {
 static void end_rtu(struct line *l, struct station *s, int over) {
     size_t from = 0;
     l->paused = 1;
-    for (size_t i = 0; !is_whole(l->in + from, l->have - from); i++) {
+    for (size_t i = 0; !is_whole(held(l) + from, l->have - from); i++) {
         if (i == l->pieces) {
-            if (over) serve(l, l->have, s);
+            if (over) serve_rtu(l, l->have, s);
             l->paused = !over;
             return;
         }
         from = l->piece[i];
     }
-    if (from > 0) serve(l, from, s);
-    serve(l, l->have, s);
+    if (from > 0) serve_rtu(l, from, s);
+    serve_rtu(l, l->have, s);
     l->paused = 0;
 }
 
@@ -114,7 +128,7 @@ static void collect_ascii(struct line *l, const uint8_t *bytes, size_t len, stru
         if (bytes[i] == ':') l->have = 0;
         else if (l->have == 0) continue;
         if (l->have < sizeof l->in) l->in[l->have++] = bytes[i];
-        if (bytes[i] == '\n') serve(l, l->have, s);
+        if (bytes[i] == '\n') serve_ascii(l, s);
     }
 }
 

@@ -15,11 +15,12 @@ struct line {
     size_t baud;
     int rs485;
     char name[64];
-    uint8_t in[512]; /* one more than the longest ASCII frame; RTU uses half of it */
-    size_t have;
+    uint8_t in[512];                        /* ASCII: one more than the longest frame */
+    uint8_t collector[DALONJANG_COLLECTOR]; /* RTU */
+    size_t have;                            /* bytes in either */
     int64_t pause, silence; /* in milliseconds: RTU, what ends a frame that is whole, and any; ASCII, what drops one */
     int paused;             /* RTU: the pause is over, and what came is not a whole frame */
-    size_t piece[MOST_PIECES], pieces; /* RTU: where in `in` bytes stand that came after a pause */
+    size_t piece[MOST_PIECES], pieces; /* RTU: where among those held bytes stand that came after a pause */
     int64_t since;          /* when the last byte came or went, or the line was lost or tried */
     struct outbox out;
 };

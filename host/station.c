@@ -54,8 +54,6 @@ static struct dalonjang_result noted(struct station *s, const char *from, const 
     uint8_t *reply, struct dalonjang_result r) {
     uint8_t transport = s->unit.setup.transport;
     struct written written = {0, 0, 0};
-    s->unit.setup.transport = transport;
-    struct dalonjang_result r = dalonjang_serve(&s->unit, frame, len, reply, room);
     struct request asked = request_of(transport, frame, len);
     int done = r.outcome == DALONJANG_ANSWERED || r.outcome == DALONJANG_BROADCAST_DONE;
     if (done) written = written_by(asked);
@@ -65,6 +63,20 @@ static struct dalonjang_result noted(struct station *s, const char *from, const 
     s->unsaved |= done && (asked.function < 1 || asked.function > 4);
     log_frame(s->log, from, frame, len, r, written, reply);
     return r;
+}
+
+struct dalonjang_result station_serve(struct station *s, const char *from, uint8_t transport, const uint8_t *frame,
+    size_t len, uint8_t *reply, size_t room) {
+    s->unit.setup.transport = transport;
+    return noted(s, from, frame, len, reply, dalonjang_serve(&s->unit, frame, len, reply, room));
+}
+
+/* The bytes held stand behind the collector's first two, and stay there when it is emptied. */
+struct dalonjang_result station_quiet(struct station *s, const char *from, uint8_t *collector, size_t held,
+    uint8_t *reply, size_t room) {
+    s->unit.setup.transport = DALONJANG_RTU;
+    struct dalonjang_result r = dalonjang_serve_quiet(&s->unit, collector, DALONJANG_COLLECTOR, reply, room);
+    return r.outcome == DALONJANG_NOTHING_HELD ? r : noted(s, from, collector + 2, held, reply, r);
 }
 
 int station_keep(struct station *s) {

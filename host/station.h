@@ -24,6 +24,10 @@ int station_open(struct station *s, const struct options *o);
 struct dalonjang_result station_serve(struct station *s, const char *from, uint8_t transport, const uint8_t *frame,
     size_t len, uint8_t *reply, size_t room);
 
+/* The same of an RTU line that is quiet, with its collector and how many bytes that holds. */
+struct dalonjang_result station_quiet(struct station *s, const char *from, uint8_t *collector, size_t held,
+    uint8_t *reply, size_t room);
+
 /* To be called before replies go out, so that whatever a client was told is in the image. Answers 0 where it cannot be
  * saved. */
 int station_keep(struct station *s);

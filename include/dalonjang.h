@@ -83,7 +83,8 @@ enum dalonjang_outcome {
     DALONJANG_NO_ROOM = 9,           /* the lent reply buffer is under 260 bytes, or 511 for ASCII */
     DALONJANG_BAD_SETUP = 10,        /* transport above 2, more than 65,536 cells, or a table too short for its cells */
     DALONJANG_BAD_REQUEST = 11,      /* dalonjang_parse_response alone: what was sent is no request */
-    DALONJANG_NOT_MY_REPLY = 12      /* dalonjang_parse_response alone: no reply to this request */
+    DALONJANG_NOT_MY_REPLY = 12,     /* dalonjang_parse_response alone: no reply to this request */
+    DALONJANG_NOTHING_HELD = 13      /* of dalonjang_quiet alone: no byte was held, and nothing is done */
 };
 
 /* The code of an exception, as the Modbus document numbers them. */
@@ -159,7 +160,7 @@ static inline struct dalonjang_result dalonjang_serve(const struct dalonjang_uni
         frame, frame_len, reply, reply_len);
 }
 
-/* How the calls below answer. Document 01 numbers more kinds; these calls give no others. */
+/* How the calls below answer, but for those that give a result or a reading. Document 01 numbers more kinds; these calls give no others. */
 enum dalonjang_kind {
     DALONJANG_KIND_VALUE = 0,        /* value holds */
     DALONJANG_KIND_NO_ROOM = 9,      /* the lent buffer is shorter than the frame */
@@ -173,6 +174,46 @@ struct dalonjang_answer {
     size_t value; /* 0 unless kind is VALUE */
     uint8_t kind; /* enum dalonjang_kind */
 };
+
+/* The bytes of a collector, in which an RTU frame is collected: uint8_t collector[DALONJANG_COLLECTOR] = {0}; all zero
+ * is empty. A longer slice will do, of which the first 259 bytes are used. What stands in it is the two calls' own: how
+ * many bytes are held, in two bytes, high first, and then those held. */
+enum { DALONJANG_COLLECTOR = 259 };
+
+/* Offers bytes as the UART brings them, in any groups, empty ones too. Good in an interrupt: its work is a copy, and it
+ * reads and writes nothing but what is lent here.
+ *
+ * VALUE          how many bytes are held now, at most 257. An RTU frame has 256 at most: the 257th is held and makes it
+ *                broken, and those after it are left out, until the line is quiet.
+ * OOB            the collector is shorter than 259 bytes; it is as lent. */
+struct dalonjang_answer dalonjang_offer(uint8_t *collector, size_t collector_len,
+    const uint8_t *bytes, size_t bytes_len);
+
+/* The line has been quiet long enough: the frame is closed and served, and the collector is empty.
+ *
+ * Not beside dalonjang_offer on the same collector: while this runs, no interrupt may offer bytes to it. Switch that
+ * interrupt off, or use two collectors in turn: the interrupt offers to one while the other is served.
+ *
+ * NOTHING_HELD   no byte was held: nothing is done, every buffer is as lent, whatever the setup and the room. A
+ *                collector too short holds nothing, nor does one with a count above 257, which no call leaves.
+ * BAD_SETUP      for a transport other than DALONJANG_RTU too.
+ * all others     as dalonjang_drive of all the bytes that were offered since the line was quiet before, in a row, in
+ *                whatever groups they came: outcome, code, reply and tables. Too many bytes are FRAME_BROKEN.
+ * Every outcome but NOTHING_HELD empties the collector, refusals included: its first two bytes are 0, and the rest
+ * stays. */
+struct dalonjang_result dalonjang_quiet(struct dalonjang_setup setup, const uint8_t *list, size_t list_len,
+    uint8_t *coils, size_t coils_len, const uint8_t *discretes, size_t discretes_len,
+    uint8_t *holdings, size_t holdings_len, const uint8_t *inputs, size_t inputs_len,
+    uint8_t *collector, size_t collector_len, uint8_t *reply, size_t reply_len);
+
+/* That call for a unit, and nothing else. */
+static inline struct dalonjang_result dalonjang_serve_quiet(const struct dalonjang_unit *unit,
+    uint8_t *collector, size_t collector_len, uint8_t *reply, size_t reply_len) {
+    return dalonjang_quiet(unit->setup, unit->list, unit->list_len,
+        unit->coils, unit->coils_len, unit->discretes, unit->discretes_len,
+        unit->holdings, unit->holdings_len, unit->inputs, unit->inputs_len,
+        collector, collector_len, reply, reply_len);
+}
 
 /* How long will the request be that begins with these bytes? For reading a line byte by byte.
  *

@@ -1,5 +1,6 @@
-/* One call of dalonjang_drive as a record, for the programs that test it. Built with -DFAULT=1 to 7 the library's
- * answer is made slightly wrong on its way back, to show that a program sees it. */
+/* One call of dalonjang_drive as a record, for the programs that test it, and the same by the collector. Built with
+ * -DFAULT=1 to 7 the driver's answer is made slightly wrong on its way back, and the collector's with 8 and 9, to show
+ * that a program sees it. */
 #ifndef ASKED_H
 #define ASKED_H
 #include "../include/dalonjang.h"
@@ -85,13 +86,35 @@ static inline struct dalonjang_result spoilt(const struct asked *a, struct dalon
     return r;
 }
 
-/* Through dalonjang_serve, so that it is tested too. */
-static inline struct dalonjang_result drive(const struct asked *a) {
+static inline struct dalonjang_unit unit_of(const struct asked *a) {
     const struct slice *t = a->table;
-    struct dalonjang_unit unit = {
+    return (struct dalonjang_unit){
         {a->transport, a->unit, a->cells[COILS], a->cells[DISCRETES], a->cells[HOLDINGS], a->cells[INPUTS]},
         a->list.bytes, a->list.len, t[COILS].bytes, t[COILS].len, t[DISCRETES].bytes, t[DISCRETES].len,
         t[HOLDINGS].bytes, t[HOLDINGS].len, t[INPUTS].bytes, t[INPUTS].len};
+}
+
+/* Through dalonjang_serve, so that it is tested too. */
+static inline struct dalonjang_result drive(const struct asked *a) {
+    struct dalonjang_unit unit = unit_of(a);
     return spoilt(a, dalonjang_serve(&unit, a->frame.bytes, a->frame.len, a->reply.bytes, a->reply.len));
+}
+
+/* --- the collector ------------------------------------------------------------------------------------------------ */
+
+static inline struct dalonjang_answer offer(struct slice collector, struct slice bytes) {
+    struct dalonjang_answer r = dalonjang_offer(collector.bytes, collector.len, bytes.bytes, bytes.len);
+    if (FAULT == 8 && r.value == 257) collector.bytes[1] = 0, r.value = 256; /* the 257th byte is lost */
+    return r;
+}
+
+/* The frame of `a` is not looked at. Through dalonjang_serve_quiet, so that it is tested too. */
+static inline struct dalonjang_result quiet(const struct asked *a, struct slice collector) {
+    struct dalonjang_unit unit = unit_of(a);
+    uint8_t low = collector.len > 1 ? collector.bytes[1] : 0;
+    struct dalonjang_result r =
+        dalonjang_serve_quiet(&unit, collector.bytes, collector.len, a->reply.bytes, a->reply.len);
+    if (FAULT == 9 && r.outcome == DALONJANG_BAD_SETUP) collector.bytes[1] = low; /* a refusal does not empty */
+    return r;
 }
 #endif

@@ -1,5 +1,6 @@
 /* fuzz [N [SEED]]: N random calls of dalonjang_drive (1,000,000 if not said): setups on both sides of every limit,
- * frames built right and then damaged, and plain noise. After each call it is checked
+ * frames built right and then damaged, and plain noise. Each frame is then cut into groups, offered to a collector and
+ * closed by a quiet line, which must come to the same on RTU, and to BadSetup elsewhere. After each call it is checked
  *   - that nothing outside the lent buffers was touched: every buffer stands against a page that cannot be,
  *   - what the header promises of every call, without asking what the right answer is,
  *   - that outcome, code, reply and tables are those of the model, document 01's driver written plainly.
@@ -8,7 +9,7 @@
 #include "chance.h"
 #include "fence.h"
 
-enum { LIST = TABLES, FRAME, REPLY, BUFFERS, OUTCOMES = 11 };
+enum { LIST = TABLES, FRAME, REPLY, BUFFERS, OUTCOMES = 11, MOST_GROUP = 40 };
 
 static const char *const outcome_name[OUTCOMES] = {"answered", "broadcast done", "exception", "broadcast ignored",
     "foreign", "frame broken", "frame check", "wrong length", "bad function", "no room", "bad setup"};
@@ -16,6 +17,9 @@ static const char *const buffer_name[BUFFERS] = {"coils", "discretes", "holdings
 
 static struct asked call; /* as given to the library, in fenced rooms */
 static uint8_t *room[BUFFERS], before[BUFFERS][ROOM], expected[BUFFERS][ROOM];
+static uint8_t *collector_room, *group_room, collector_before[300]; /* fenced as well */
+static struct slice collector;
+static unsigned long collector_number; /* the call for which it was placed */
 static uint8_t body[600]; /* the request from the unit byte on, before the check is made */
 static size_t body_len;
 static unsigned long number, seed = 1;
@@ -111,6 +115,7 @@ static void random_frame(void) {
     } else {
         random_body();
         if (percent(8)) damage(body, &body_len); /* the check is made afterwards, and is right */
+        if (percent(2)) body_len = PICK(254, 255, 298); /* RTU frames of 256, 257 and 300 bytes */
         n = sent(f);
         if (percent(8)) damage(f, &n);
         if (percent(1) && n > 9) memcpy(f + n - 3, (const char *[]){"\n\r0", "a\r\n", "\r\n\0"}[below(3)], 3);
@@ -200,6 +205,70 @@ static void check(struct dalonjang_result r) {
         }
 }
 
+/* --- the same by the collector --------------------------------------------------------------------------------- */
+
+/* What stands in it is from the call before, which must have emptied it; now and then it is lent afresh, with a count
+ * of 0 or one that none may have, or too short. */
+static void lend_collector(void) {
+    size_t len = percent(2) ? below(259) : 259 + (percent(20) ? below(4) : 0);
+    if (len != collector.len || percent(10)) {
+        if (collector.bytes != NULL) memset(collector.bytes, UNTOUCHED, collector.len);
+        collector = (struct slice){place(collector_room, len, number), len};
+        collector_number = number;
+        for (size_t i = 0; i < len; i++) collector.bytes[i] = (uint8_t)chance();
+        if (len >= 2) memcpy(collector.bytes, (const char *[]){"\0\0", "\1\2", "\2\0", "\377\377"}[below(4)], 2);
+    }
+    memcpy(collector_before, collector.bytes, collector.len);
+}
+
+/* The frame in groups of 0 to 40 bytes, each in its own fenced place. Answers what is wrong. */
+static const char *offer_frame(void) {
+    size_t at = 0;
+    do {
+        size_t left = call.frame.len - at, n = below(MOST_GROUP + 1), held;
+        if (n > left) n = left;
+        struct slice group = {memcpy(place(group_room, n, number), before[FRAME] + at, n), n};
+        at += n;
+        held = collector.len < 259 ? 0 : at < 257 ? at : 257;
+        struct dalonjang_answer a = offer(collector, group);
+        if (a.kind != (collector.len < 259 ? DALONJANG_KIND_OOB : 0) || a.value != held)
+            return "a wrong number is held";
+        if (memcmp(group.bytes, before[FRAME] + at - n, n) != 0) return "the bytes offered changed";
+        if (!margin_untouched(group.bytes, n, number)) return "bytes beside the bytes offered changed";
+        memset(group.bytes, UNTOUCHED, n);
+    } while (at < call.frame.len);
+    return NULL;
+}
+
+/* After the call of the driver, which gave r and left its buffers so. */
+static void collect(struct dalonjang_result r) {
+    int held = call.frame.len > 0 && collector.len >= 259;
+    for (int i = 0; i < BUFFERS; i++) {
+        struct slice *s = buffer(&call, i);
+        memcpy(expected[i], held && call.transport == DALONJANG_RTU ? s->bytes : before[i], s->len);
+        memcpy(s->bytes, before[i], s->len);
+    }
+    if (call.transport != DALONJANG_RTU) r = (struct dalonjang_result){0, DALONJANG_BAD_SETUP, 0};
+    if (!held) r = (struct dalonjang_result){0, DALONJANG_NOTHING_HELD, 0};
+    const char *wrong = offer_frame();
+    if (wrong != NULL) different(wrong, NULL);
+    uint8_t high = collector.len > 0 ? collector.bytes[0] : 0, low = collector.len > 1 ? collector.bytes[1] : 0;
+    struct dalonjang_result c = quiet(&call, collector);
+    if (c.outcome != r.outcome || c.code != r.code || c.length != r.length) different("not so by the collector", &c);
+    for (int i = 0; i < BUFFERS; i++)
+        if (memcmp(expected[i], buffer(&call, i)->bytes, buffer(&call, i)->len) != 0
+            || !margin_untouched(buffer(&call, i)->bytes, buffer(&call, i)->len, number))
+            different("not these bytes by the collector", &c);
+    if (held) high = low = 0;
+    if ((collector.len > 0 && collector.bytes[0] != high) || (collector.len > 1 && collector.bytes[1] != low))
+        different("the collector is not empty", &c);
+    size_t kept = held ? 2 + (call.frame.len < 257 ? call.frame.len : 257) : 2;
+    if (collector.len > kept && memcmp(collector.bytes + kept, collector_before + kept, collector.len - kept) != 0)
+        different("the collector changed behind its bytes", &c);
+    if (!margin_untouched(collector.bytes, collector.len, collector_number))
+        different("bytes beside the collector changed", &c);
+}
+
 int main(int argc, char **argv) {
     unsigned long calls = argc > 1 ? strtoul(argv[1], NULL, 10) : 1000000, count[OUTCOMES] = {0};
     if (argc > 2) seed = strtoul(argv[2], NULL, 10);
@@ -210,6 +279,7 @@ int main(int argc, char **argv) {
     chance_state = seed;
     watch_fences(touched);
     for (int i = 0; i < BUFFERS; i++) room[i] = fenced();
+    collector_room = fenced(), group_room = fenced();
     for (number = 0; number < calls; number++) {
         random_setup();
         random_frame();
@@ -217,9 +287,11 @@ int main(int argc, char **argv) {
         struct dalonjang_result r = drive(&call);
         check(r);
         count[r.outcome]++;
+        lend_collector();
+        collect(r);
         for (int i = 0; i < BUFFERS; i++) memset(buffer(&call, i)->bytes, UNTOUCHED, buffer(&call, i)->len);
     }
-    printf("%lu calls, all as model and header say:", calls);
+    printf("%lu calls, all as model and header say, and so by the collector:", calls);
     for (int o = 0; o < OUTCOMES; o++) printf("%s %s %lu", o == 0 ? "" : ",", outcome_name[o], count[o]);
     puts("");
     for (int o = 0; o < OUTCOMES; o++)

@@ -5,7 +5,7 @@
 #include <stdio.h>
 #include <string.h>
 
-void uart_byte(uint8_t byte);
+void uart_bytes(const uint8_t *bytes, size_t len);
 void line_quiet(void);
 void pressure(uint16_t raw);
 
@@ -17,10 +17,13 @@ void uart_send(const uint8_t *bytes, size_t len) {
     sent_len = len;
 }
 
-/* Bytes come one by one, then the line is quiet; an empty reply is none. */
+/* Bytes come in groups of one to three, then the line is quiet; an empty reply is none. */
 static int answers(const char *name, const char *request, size_t request_len, const char *reply, size_t reply_len) {
     sent_len = 0;
-    for (size_t i = 0; i < request_len; i++) uart_byte((uint8_t)request[i]);
+    for (size_t i = 0, n; i < request_len; i += n) {
+        n = 1 + i % 3 < request_len - i ? 1 + i % 3 : request_len - i;
+        uart_bytes((const uint8_t *)request + i, n);
+    }
     line_quiet();
     int right = sent_len == reply_len && memcmp(sent, reply, reply_len) == 0;
     if (!right) printf("wrong: the gauge's reply to %s\n", name);
@@ -38,8 +41,10 @@ int main(void) {
     pressure(0x3000);
     right &= ANSWERS("the next pressure", "\x01\x04\x00\x00\x00\x01\x31\xCA", "\x01\x04\x02\x01\x00\xB8\xA0");
     right &= ANSWERS("a ninth point", "\x01\x06\x00\x08\x00\x01\xC9\xC8", "\x01\x86\x02\xC3\xA1");
-    for (int i = 0; i < 300; i++) uart_byte(1);
+    for (int i = 0; i < 300; i++) uart_bytes((const uint8_t *)"\1", 1);
     right &= ANSWERS("an overlong frame", "", "");
-    if (right) puts("7 frames, each answered as it should be");
+    right &= ANSWERS("a quiet line", "", "");
+    right &= ANSWERS("the frame after it", "\x01\x02\x00\x00\x00\x01\xB9\xCA", "\x01\x02\x01\x00\xA1\x88");
+    if (right) puts("8 frames and a quiet line, each answered as it should be");
     return !right;
 }

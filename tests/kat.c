@@ -1,9 +1,9 @@
-/* kat: every call of the header, with answers that stand in document 01: the cases a to l, both sides of every number,
- * the order of the faults, the refusals. Outcome, code, length and every lent byte are compared. Nothing expected is
+/* kat: every call of the header, with answers that stand in documents 01 and 02: the cases a to l, both sides of every
+ * number, the order of the faults, the refusals, the collector's cases. Outcome, code, length and every lent byte are compared. Nothing expected is
  * worked out here; only header, CRC and LRC are put around a request and its reply, so that a row holds on all
  * transports.
  * `kat list` makes no call: it writes the driver's cases to standard output, as crates/cases/stdin holds them.
- * Status: 0 all as document 01 says, 1 a difference, 2 called otherwise. */
+ * Status: 0 all as the documents say, 1 a difference, 2 called otherwise. */
 #include "kat.h"
 #include <stdio.h>
 #include <stdlib.h>
@@ -12,7 +12,7 @@
 unsigned checks;
 
 void different(const char *name, const char *what) {
-    printf("%s: %s is not what document 01 says\n", name, what);
+    printf("%s: %s is not what the documents say\n", name, what);
     exit(1);
 }
 
@@ -43,6 +43,7 @@ int main(int argc, char **argv) {
         || model_crc((const uint8_t *)"\xFF", 1) != 0x00FF) different("case l", "the CRC of these tests");
     driver_cases(listing ? list_case : call_case);
     if (listing) return 0;
+    collector_cases();
     other_calls();
     asking_cases();
     printf("%u checks, all as the documents say\n", checks);

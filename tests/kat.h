@@ -1,5 +1,5 @@
 /* What the files of kat share: kat.c starts and counts; kat_drive.c has the driver's cases, from kat_rows.h,
- * kat_ask.c the asking side's, and kat_calls.c the header's other four calls; kat_list.c
+ * kat_collect.c the collector's, kat_ask.c the asking side's, and kat_calls.c the header's other four calls; kat_list.c
  * writes the list. */
 #ifndef KAT_H
 #define KAT_H
@@ -49,7 +49,8 @@ void driver_cases(each_case *each);
 each_case call_case, list_case;
 void list_head(void);
 
-/* The other four calls. */
+/* The collector's cases, and the other four calls. */
+void collector_cases(void);
 void other_calls(void);
 
 /* The three calls of the asking side. */

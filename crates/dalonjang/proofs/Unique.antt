@@ -4,10 +4,15 @@ use mathlib.Core.Path.{refl, sym, ap, _∙_}
 use mathlib.Core.List.{List}
 use Prim.Native.Nat.{ℕ}
 use Rattle.modbus.proofs.Unique.{Unique, answer-paper}
+use Rattle.driver.specs.Driven.{Leaves}
 use Rattle.driver.proofs.Unique.{drive as driver-drive}
 use Rattle.client.proofs.Unique.{generate-get as client-generate-get, generate-set as client-generate-set, parse-response as client-parse-response}
 use Rattle.dalonjang.proofs.dalonjang_drive.Kinds as dalonjang-drive-kinds
 use Rattle.dalonjang.proofs.dalonjang_drive.Reads as dalonjang-drive-reads
+use Rattle.dalonjang.proofs.dalonjang_offer.Kinds as dalonjang-offer-kinds
+use Rattle.dalonjang.proofs.dalonjang_offer.Reads as dalonjang-offer-reads
+use Rattle.dalonjang.proofs.dalonjang_quiet.Kinds as dalonjang-quiet-kinds
+use Rattle.dalonjang.proofs.dalonjang_quiet.Reads as dalonjang-quiet-reads
 use Rattle.dalonjang.proofs.dalonjang_parse_ascii_frame.Kinds as dalonjang-parse-ascii-frame-kinds
 use Rattle.dalonjang.proofs.dalonjang_parse_ascii_frame.Reads as dalonjang-parse-ascii-frame-reads
 use Rattle.dalonjang.proofs.dalonjang_generate_ascii_frame.Kinds as dalonjang-generate-ascii-frame-kinds
@@ -52,3 +57,21 @@ generate-set = client-generate-set
 
 pub parse-response : Unique 3 dalonjang-parse-response-kinds.ps dalonjang-parse-response-kinds.r dalonjang-parse-response-reads.Post
 parse-response = client-parse-response
+
+pub offer : Unique 2 dalonjang-offer-kinds.ps dalonjang-offer-kinds.r dalonjang-offer-reads.Post
+offer κs a x y u v p q =
+    let e = p ∙ sym q in
+    (answer-paper x y (ap (λ (t : (ℕ × ℕ) × List ℕ). t .0) e), ap (λ (t : (ℕ × ℕ) × List ℕ). (t .1, u .1)) e)
+
+-- the coils are the third of the parameters, the holdings the fifth, the collector the seventh and the reply buffer the last
+pub quiet : Unique 7 dalonjang-quiet-kinds.ps dalonjang-quiet-kinds.r dalonjang-quiet-reads.Post
+quiet κs a x y u v p q =
+    let e = p ∙ sym q in
+    let f = u .1 .1 .1 in
+    let h = f .1 .1 in (
+      ap (λ (g : Leaves × List ℕ). g .0 .result) e,
+      ap (λ (g : Leaves × List ℕ). (
+        u .0,
+        (u .1 .0, (g .0 .coilBytes, (f .0, (g .0 .holdingBytes, (h .0, (g .1, (g .0 .replyBytes, h .1 .1 .1))))))),
+      )) e,
+    )

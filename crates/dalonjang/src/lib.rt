@@ -7,10 +7,12 @@ use modbus::Answer;
 use modbus::ProtoAnswer;
 ghost use mathlib.Core.Path.{_≡_};
 ghost use lib.ListN.{length};
+ghost use Rattle.modbus.specs.Paper.{toldWith};
 ghost use Rattle.ascii.specs.Reading.{parsedInto, generatedInto};
 ghost use Rattle.lengths.specs.Guess.{requestBody, responseBody};
 ghost use Rattle.driver.specs.Driven.{lentIn, leaving, called};
 ghost use Rattle.client.specs.Asking.{getting, setting, generated, laidInto, understood, readInto};
+ghost use Rattle.collector.specs.Collected.{offered, quieted, leftBy};
 ghost use Rattle.dalonjang.specs.Numbered.{sideBody, guessed};
 
 #[no_mangle]
@@ -38,6 +40,40 @@ pub extern "C" fn dalonjang_drive(
         frame,
         reply,
     )
+}
+
+#[no_mangle]
+pub extern "C" fn dalonjang_offer(state: &mut [u8], bytes: &[u8]) -> Answer
+    ensures { λ r. ⌜ ((r .kind, r .value), now (state .exit)) ≡ toldWith (now (state .entry)) (offered (now (state .entry)) (now (bytes .entry))) ⌝ }
+{
+    modbus::size_answer(collector::offer(state, bytes))
+}
+
+#[no_mangle]
+pub extern "C" fn dalonjang_quiet(
+    setup: Setup,
+    list: &[u8],
+    coils: &mut [u8],
+    discretes: &[u8],
+    holdings: &mut [u8],
+    inputs: &[u8],
+    state: &mut [u8],
+    reply: &mut [u8],
+) -> Driven
+    ensures { λ r. ⌜ (leaving r (now (reply .exit)) (now (coils .exit)) (now (holdings .exit)), now (state .exit)) ≡ leftBy (quieted setup (now (list .entry))
+        (lentIn setup (now (coils .entry)) (now (discretes .entry)) (now (holdings .entry)) (now (inputs .entry)))
+        (now (state .entry)) (now (reply .entry))) ⌝ }
+{
+    collector::outcome_of(collector::quiet(
+        setup,
+        list,
+        coils,
+        discretes,
+        holdings,
+        inputs,
+        state,
+        reply,
+    ))
 }
 
 #[no_mangle]

@@ -1,0 +1,61 @@
+-- A frame of more bytes than an RTU frame may have, cut to 257 or whole, is one to the driver.
+-- Assumes nothing.
+use mathlib.Core.Logic.{_⊎_, inl, inr}
+use mathlib.Core.Path.{_≡_, sym, ap, subst, _∙_}
+use mathlib.Core.List.{List}
+use Prim.Native.Nat.{ℕ, _≤_, _<_}
+use native.Mathlib.Omega.{arith}
+use lib.ListN.{length, take, length-take}
+use lib.Seq.{take-all}
+use Rattle.modbus.specs.Step.{stop, _≤?_, _≟_}
+use Rattle.modbus.specs.Paper.{protoOf}
+use Rattle.modbus.specs.Setup.{Setup, proto, Valid, valid?, Roomy, roomy?}
+use Rattle.modbus.specs.Decode.{frameBroken, unwrap}
+use Rattle.modbus.specs.Drive.{judge}
+use Rattle.modbus.specs.declared.ModbusProto.{ModbusProto}
+use Rattle.modbus.specs.declared.ModbusProto.the-variants.{Rtu}
+use Rattle.modbus.proofs.StepLaws.{fail}
+use Rattle.tables.specs.Lent.{Lent}
+use Rattle.transports.specs.Opened.{opened}
+use Rattle.driver.specs.declared.Setup.{Setup as Numbers}
+use Rattle.driver.specs.Driven.{setupOf, settled, driven, called}
+use Rattle.driver.proofs.CallLaws.{bad-called, roomless-called, unopened-called}
+use Rattle.collector.specs.Collected.{refusing, rtuCalled}
+use Rattle.collector.proofs.CollectedLaws.{rtu-other, rtu-driven}
+
+pub too-long : (f : List ℕ) → 256 < length f → unwrap Rtu f ≡ stop frameBroken
+unfolding unwrap
+too-long f h = fail _ _ _ (λ k. absurd (omega arith))
+
+pub unwrap-cut : (f : List ℕ) → unwrap Rtu (take 257 f) ≡ unwrap Rtu f
+unwrap-cut f = by (length f ≤? 257)
+  where
+    by : Dec (length f ≤ 257) → unwrap Rtu (take 257 f) ≡ unwrap Rtu f
+    by (yes h) = ap (unwrap Rtu) (take-all 257 f h)
+    by (no h) = too-long (take 257 f) (simp length-take (omega arith)) ∙ sym (too-long f (omega arith))
+
+judge-same : (s : Setup) (f g : List ℕ) → unwrap (proto s) f ≡ unwrap (proto s) g → judge s f ≡ judge s g
+unfolding judge
+judge-same s f g e = rw e
+
+module _ (n : Numbers) (list : List ℕ) (l : Lent) (f reply : List ℕ) where
+  pub called-cut : n .transport ≡ 0 → called n list l (take 257 f) reply ≡ called n list l f reply
+  unfolding driven
+  called-cut z =
+      let s = setupOf n list l reply in
+      let e = subst (λ (p : ModbusProto). unwrap p (take 257 f) ≡ unwrap p f) (sym (ap protoOf z)) (unwrap-cut f) in
+      ap (settled s l reply) (judge-same s (take 257 f) f e)
+
+  -- too many bytes: BadSetup, NoRoom or FrameBroken, in this order, and every buffer as lent
+  pub too-many : 256 < length f
+      → (rtuCalled n list l f reply ≡ refusing 10 l reply) ⊎ ((rtuCalled n list l f reply ≡ refusing 9 l reply) ⊎ (rtuCalled n list l f reply ≡ refusing 5 l reply))
+  too-many h = by (n .transport ≟ 0) (valid? (setupOf n list l reply)) (roomy? (setupOf n list l reply))
+    where
+      by : Dec (n .transport ≡ 0) → Dec (Valid (setupOf n list l reply)) → Dec (Roomy (setupOf n list l reply))
+          → (rtuCalled n list l f reply ≡ refusing 10 l reply) ⊎ ((rtuCalled n list l f reply ≡ refusing 9 l reply) ⊎ (rtuCalled n list l f reply ≡ refusing 5 l reply))
+      by (no z) v r = inl (rtu-other n list l f reply z)
+      by (yes z) (no v) r = inl (rtu-driven n list l f reply z ∙ sym (bad-called n list l f reply v))
+      by (yes z) (yes v) (no r) = inr (inl (rtu-driven n list l f reply z ∙ sym (roomless-called n list l f reply v r)))
+      by (yes z) (yes v) (yes r) =
+          let e = subst (λ (p : ModbusProto). unwrap p f ≡ stop frameBroken) (sym (ap protoOf z)) (too-long f h) in
+          inr (inr (rtu-driven n list l f reply z ∙ sym (unopened-called n list l f reply v r 0 (sym (ap opened e)) (omega arith))))

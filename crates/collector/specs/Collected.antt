@@ -1,0 +1,82 @@
+-- An RTU frame collected from bytes as the UART brings them (document 02, request 2026-04): bytes are offered, and a quiet line closes the
+-- frame and serves it. The collector is 259 lent bytes: how many are held, in two bytes, high first, and then the bytes held, up to 257 of
+-- them. So all zero is an empty one. An RTU frame has 256 bytes at most: the 257th is kept, since it makes the frame broken, and none after it.
+-- Assumes nothing.
+use mathlib.Core.List.{List, [], _∷_, _++_}
+use Prim.Native.Nat.{ℕ}
+use lib.ListN.{length, take, drop}
+use lib.Seq.{sets}
+use Rattle.modbus.specs.Step.{Step, go, _>>_, need, choose, _≤?_, _≟_, _and?_}
+use Rattle.modbus.specs.Bytes.{two, wordAt}
+use Rattle.modbus.specs.declared.ErrorKind.{ErrorKind}
+use Rattle.modbus.specs.declared.ErrorKind.the-variants.{OOB}
+use Rattle.tables.specs.Lent.{Lent}
+use Rattle.driver.specs.declared.Setup.{Setup as Numbers}
+use Rattle.driver.specs.declared.Driven.{Driven}
+use Rattle.driver.specs.Driven.{Leaves, leaving, called}
+use Rattle.collector.specs.declared.Closed.{Closed}
+use Rattle.collector.specs.declared.Closed.the-variants.{Nothing, Served}
+
+-- the bytes held; a slice too short, or a count that no call leaves, holds nothing
+unfoldable pub heldIn : List ℕ → List ℕ
+heldIn s = choose ((259 ≤? length s) and? (wordAt s 0 ≤? 257)) (take (wordAt s 0) (drop 2 s)) []
+
+-- a collector that holds these bytes
+abbrev pub holding : List ℕ → List ℕ → List ℕ
+holding s l = sets s 0 (two (length l) ++ l)
+
+-- bytes are offered: how many are held then, and the collector
+unfoldable pub offered : List ℕ → List ℕ → Step ErrorKind (ℕ × List ℕ)
+offered s b = do
+  need (259 ≤? length s) OOB
+  go (length (take 257 (heldIn s ++ b)), holding s (take 257 (heldIn s ++ b)))
+
+-- groups of bytes, all in a row
+abbrev pub joined : List (List ℕ) → List ℕ
+joined [] = []
+joined (b ∷ gs) = b ++ joined gs
+
+-- ---- the quiet signal
+
+abbrev pub emptied : List ℕ → List ℕ
+emptied s = holding s []
+
+-- no byte is changed and no reply sent
+abbrev pub refusing : ℕ → Lent → List ℕ → Leaves
+refusing o l reply = leaving (record { length = 0; outcome = o; code = 0 }) reply (l .coilBytes) (l .holdingBytes)
+
+-- a whole frame: the driver's call on transport 0, and BadSetup on any other
+unfoldable pub rtuCalled : Numbers → List ℕ → Lent → List ℕ → List ℕ → Leaves
+rtuCalled n list l f reply = choose (n .transport ≟ 0) (called n list l f reply) (refusing 10 l reply)
+
+-- what a quiet signal leaves: whether a frame was closed and what became of it, the reply buffer, the coils, the holdings, the collector
+pub record Quieted : Type 0 where
+  pub closed : Closed
+  pub replyBytes : List ℕ
+  pub coilBytes : List ℕ
+  pub holdingBytes : List ℕ
+  pub collector : List ℕ
+
+abbrev pub quieting : Closed → List ℕ → List ℕ → List ℕ → List ℕ → Quieted
+quieting r o c h s = record { closed = r; replyBytes = o; coilBytes = c; holdingBytes = h; collector = s }
+
+-- a frame was closed, and every outcome empties the collector
+abbrev pub served : List ℕ → Leaves → Quieted
+served s g = quieting (Served (g .result)) (g .replyBytes) (g .coilBytes) (g .holdingBytes) (emptied s)
+
+-- with nothing held it does nothing
+abbrev pub closing : Numbers → List ℕ → Lent → List ℕ → List ℕ → List ℕ → Quieted
+closing n list l s reply [] = quieting Nothing reply (l .coilBytes) (l .holdingBytes) s
+closing n list l s reply (b ∷ f) = served s (rtuCalled n list l (b ∷ f) reply)
+
+abbrev pub quieted : Numbers → List ℕ → Lent → List ℕ → List ℕ → Quieted
+quieted n list l s reply = closing n list l s reply (heldIn s)
+
+-- ---- in numbers: NothingHeld is outcome 13, after document 01's
+
+abbrev pub closedPaper : Closed → Driven
+closedPaper Nothing = record { length = 0; outcome = 13; code = 0 }
+closedPaper (Served d) = d
+
+abbrev pub leftBy : Quieted → Leaves × List ℕ
+leftBy q = (leaving (closedPaper (q .closed)) (q .replyBytes) (q .coilBytes) (q .holdingBytes), q .collector)
