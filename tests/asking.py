@@ -41,11 +41,11 @@ def shown(table, first, values):
 
 # --- who is asked -----------------------------------------------------------------------------------------------------
 
-class Way:
-    """To somebody who hears one request and says what a test has prepared: pieces of bytes, with what to do between."""
+class Beside:
+    """What it serves goes on beside a test, in a thread of its own, until it is over."""
 
     def __init__(self):
-        self.pieces, self.heard, self.over = [], b"", threading.Event()
+        self.over = threading.Event()
         self.thread = threading.Thread(target=self.serve, daemon=True)
 
     def __enter__(self):
@@ -55,6 +55,14 @@ class Way:
     def __exit__(self, *_):
         self.over.set()
         self.thread.join(PATIENCE)
+
+
+class Way(Beside):
+    """To somebody who hears one request and says what a test has prepared: pieces of bytes, with what to do between."""
+
+    def __init__(self):
+        super().__init__()
+        self.pieces, self.heard = [], b""
 
     def speak(self, send):
         for piece in self.pieces:
@@ -114,26 +122,21 @@ class FakeLine(Way):
         self.line.close()
 
 
-class Joined:
+class Joined(Beside):
     """Two serial lines whose ends are one wire: the server's and the tool's."""
 
     def __init__(self):
-        self.ends, self.over = (Line(), Line()), threading.Event()
+        super().__init__()
+        self.ends = Line(), Line()
         self.server, self.tool = (line.path for line in self.ends)
-        self.thread = threading.Thread(target=self.carry, daemon=True)
 
-    def carry(self):
+    def serve(self):
         masters = [line.master for line in self.ends]
         while not self.over.is_set():
             for ready in select.select(masters, [], [], 0.05)[0]:
                 os.write(masters[1 - masters.index(ready)], os.read(ready, 600))
 
-    def __enter__(self):
-        self.thread.start()
-        return self
-
-    def __exit__(self, *_):
-        self.over.set()
-        self.thread.join(PATIENCE)
+    def __exit__(self, *how):
+        super().__exit__(*how)
         for line in self.ends:
             line.close()

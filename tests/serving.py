@@ -34,6 +34,20 @@ def same(got, wanted, what):
     check(got == wanted, f"{what}: {shown(got)} in place of {shown(wanted)}")
 
 
+def run_tests(parts, words, names):
+    """The tests of these names, or all that the parts have, with these words. Answers the status: 0 all as said, 1
+    something is wrong (a line says what)."""
+    tests = {name[5:]: test for part in parts for name, test in vars(part).items() if name.startswith("test_")}
+    for name in names or tests:
+        try:
+            tests[name](*words)
+        except (Wrong, OSError, subprocess.TimeoutExpired) as fault:
+            print(f"wrong: {name}: {fault}")
+            return 1
+    print(f"{len(names or tests)} tests, all as they should be: {', '.join(names or tests).replace('_', ' ')}")
+    return 0
+
+
 def shown(value):
     return value.hex() or "nothing" if isinstance(value, bytes) else repr(value)
 
