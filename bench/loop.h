@@ -49,11 +49,20 @@ static void try_cells(const struct row *row, size_t function, size_t most) {
     if (part.count > 0) try_one(&part);
 }
 
+/* The cells that function 23 reads and does not write. */
+static void try_kept(const struct row *row) {
+    struct row kept = *row;
+    kept.start += row->count - KEPT;
+    kept.count = KEPT;
+    try_cells(&kept, 16, KEPT);
+}
+
 static void try_row(const struct row *row) {
     int bits = row->function == 1 || row->function == 5 || row->function == 15;
     int done = row->how == OURS || row->how == BROADCAST, reads = row->function < 5;
     int inside = done && row->count > 0 && row->start + row->count <= row->cells;
     if (inside && reads) try_cells(row, bits ? 15 : 16, bits ? 1000 : 100);
+    if (inside && row->function == 23) try_kept(row);
     try_one(row);
     if (inside && !reads) try_cells(row, bits ? 1 : 3, bits ? 2000 : 125);
 }

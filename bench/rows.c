@@ -20,13 +20,17 @@ static size_t put_word(uint8_t *at, size_t value) {
     return 2;
 }
 
+/* So many words of a row as they travel. Answers how many bytes. */
+static size_t put_words(uint8_t *at, const struct row *row, size_t count) {
+    size_t n = 0;
+    for (size_t i = 0; i < count; i++) n += put_word(at + n, word_at(row, i));
+    return n;
+}
+
 /* The cells of a row as they travel: bits eight to a byte, lowest first, or words. Answers how many bytes. */
 static size_t put_cells(uint8_t *at, const struct row *row) {
-    size_t n = 0;
-    if (row->function == 3 || row->function == 16) {
-        for (size_t i = 0; i < row->count; i++) n += put_word(at + n, word_at(row, i));
-        return n;
-    }
+    size_t n;
+    if (row->function == 3 || row->function == 16 || row->function == 23) return put_words(at, row, row->count);
     n = (row->count + 7) / 8;
     memset(at, 0, n);
     for (size_t i = 0; i < row->count; i++) at[i / 8] |= (uint8_t)(bit_at(row, i) << i % 8);
@@ -38,11 +42,19 @@ static size_t put_request(uint8_t *body, const struct row *row) {
     size_t value = row->count;
     if (row->function == 5) value = bit_at(row, 0) ? 0xFF00 : 0;
     if (row->function == 6) value = word_at(row, 0);
+    if (row->function == 22) value = 0; /* no bit stays, so that the cell is B then; the cost is that of every mask */
     body[0] = row->how == FOREIGN ? OTHER_UNIT : row->how == BROADCAST ? EVERYONE : UNIT;
     body[1] = (uint8_t)row->function;
     put_word(body + 2, row->start);
     put_word(body + 4, value);
     if (row->function < 15) return 6;
+    if (row->function == 22) return 6 + put_word(body + 6, word_at(row, 0));
+    if (row->function == 23) {
+        put_word(body + 6, row->start);
+        put_word(body + 8, row->count - KEPT);
+        body[10] = (uint8_t)put_words(body + 11, row, row->count - KEPT);
+        return 11u + body[10];
+    }
     body[6] = (uint8_t)put_cells(body + 7, row);
     return 7u + body[6];
 }
@@ -54,8 +66,9 @@ static size_t put_reply(uint8_t *body, const struct row *row) {
         body[2] = row->count == 0 ? 3 : 2;
         return 3;
     }
-    put_request(body, row);
-    if (row->function > 4) return 6;
+    size_t asked = put_request(body, row);
+    if (row->function == 22) return asked;
+    if (row->function > 4 && row->function != 23) return 6;
     body[2] = (uint8_t)put_cells(body + 3, row);
     return 3u + body[2];
 }

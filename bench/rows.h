@@ -10,11 +10,12 @@ enum { RTU, ASCII, TCP, CRC, OFFER, QUIET };
 enum { UNIT = 1, OTHER_UNIT = 2, EVERYONE = 0, MOST = 520 };
 /* To our unit; to another; to all; to ours, with a wrong check; built by the asking side, its reply read there. */
 enum { OURS, FOREIGN, BROADCAST, SPOILT, BUILT, HEARD };
+enum { KEPT = 4 }; /* what function 23 reads and does not write, the last cells of its row */
 enum { PAGE = 4096 }; /* tables and buffers start at a page: the cost of a copy depends on where it starts */
 
 struct row {
     int kind, how;
-    size_t function, start, count, cells; /* every table has so many cells */
+    size_t function, start, count, cells; /* every table has so many cells; function 23 writes KEPT fewer than it reads */
     size_t turn;                          /* from turn to turn all cells have other values */
 };
 

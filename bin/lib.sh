@@ -83,10 +83,11 @@ parts_of() {
 
 # calls_of PART <CALLS: those that it has
 calls_of() {
+    local uart='offer|quiet' ask='generate_get|generate_set|generate_mask|generate_set_get|parse_response'
     case $1 in
-    uart) grep -E '_(offer|quiet)$' ;;
-    ask) grep -E '_(generate_get|generate_set|parse_response)$' ;;
-    serve) grep -vE '_(offer|quiet|generate_get|generate_set|parse_response)$' ;;
+    uart) grep -E "_($uart)\$" ;;
+    ask) grep -E "_($ask)\$" ;;
+    serve) grep -vE "_($uart|$ask)\$" ;;
     all) cat ;;
     esac
 }

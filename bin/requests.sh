@@ -22,6 +22,8 @@ requests() {
     asked 'write # registers' "$1" ours 16 104 $registers
     asked 'write # coils on a byte' "$1" ours 15 104 $coils
     asked 'write # coils off a byte' "$1" ours 15 107 $coils
+    asked 'mask write' "$1" ours 22 104 1
+    asked 'read/write # and 121 registers' "$1" ours 23 104 125
     asked 'exception: # registers past the end' "$1" ours 3 65535 2
     asked 'exception: a count of #' "$1" ours 3 104 0
     asked 'foreign: read # registers' "$1" foreign 3 104 2

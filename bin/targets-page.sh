@@ -23,7 +23,7 @@ added_up() {
 
 # figure TARGET WORD..: the rest of the line that begins with these words
 figure() {
-    sed -n "s/^${*:2} *//p" "$room/$1/figures"
+    sed -nE "s/^${*:2}( +|\$)//p" "$room/$1/figures"
 }
 
 size_table() {

@@ -21,7 +21,7 @@ static const char *refusal(uint8_t kind) {
     case DALONJANG_NO_ROOM: return "NoRoom (9): there is no room for it";
     case DALONJANG_BAD_REQUEST:
         return "BadRequest (11): that cannot be asked; 1 to 2000 coils or discretes and 1 to 125 registers are read, 1 "
-               "to 1968 coils of 0 or 1 and 1 to 123 registers are written, up to cell 65535";
+               "to 1968 coils of 0 or 1 and 1 to 123 registers, or 121 in an exchange, are written, up to cell 65535";
     default: return "NotMyReply (12): what came is no reply to this request";
     }
 }
@@ -33,12 +33,17 @@ static void show(const char *what, const uint8_t *bytes, size_t len) {
 }
 
 static struct dalonjang_answer build(const struct wanted *w, uint8_t *frame, size_t room) {
-    if (w->writes) return dalonjang_generate_set(w->to, w->func, w->first, w->values, w->count, frame, room);
-    return dalonjang_generate_get(w->to, w->func, w->first, (uint16_t)w->count, frame, room);
+    if (w->func == 22) return dalonjang_generate_mask(w->to, w->first, w->masks[0], w->masks[1], frame, room);
+    if (w->func == 23)
+        return dalonjang_generate_set_get(w->to, w->first, w->count, w->write_first, w->values, w->write_count, frame,
+            room);
+    if (w->writes)
+        return dalonjang_generate_set(w->to, w->func, w->write_first, w->values, w->write_count, frame, room);
+    return dalonjang_generate_get(w->to, w->func, w->first, w->count, frame, room);
 }
 
 static struct dalonjang_reading judge(const struct wanted *w, const uint8_t *frame, size_t len, const struct wire *l) {
-    return dalonjang_parse_response(w->to.proto, frame, len, l->in, l->have, w->values, w->writes ? 0 : 2000);
+    return dalonjang_parse_response(w->to.proto, frame, len, l->in, l->have, w->values, w->writes ? 0 : MOST_READ);
 }
 
 static int is_told(struct dalonjang_reading r) {
@@ -66,8 +71,9 @@ static int report(const struct wanted *w, const struct wire *l, struct dalonjang
     if (r.outcome == DALONJANG_EXCEPTION)
         return tell("unit %u refused: exception %u, %s", w->to.unit_id, r.code, exception_name(r.code));
     if (r.outcome != DALONJANG_ANSWERED) return tell("%s", refusal(r.outcome));
+    if (w->func == 22) printf("masked: holding %u by 0x%04X and 0x%04X\n", w->first, w->masks[0], w->masks[1]);
+    if (w->write_count > 0) printf("written: %zu %s from %u on\n", w->write_count, w->table, w->write_first);
     for (size_t i = 0; i < r.count; i++) printf("%s %zu %u\n", w->table, w->first + i, w->values[i]);
-    if (w->writes) printf("written: %zu %s from %u on\n", w->count, w->table, w->first);
     return 0;
 }
 

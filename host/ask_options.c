@@ -7,6 +7,8 @@
 static const char usage[] =
     "Usage: ask [OPTION].. read coils|discretes|holdings|inputs FIRST COUNT\n"
     "       ask [OPTION].. write coil|coils|holding|holdings FIRST VALUE..\n"
+    "       ask [OPTION].. mask HOLDING AND OR\n"
+    "       ask [OPTION].. exchange READ_FIRST COUNT WRITE_FIRST VALUE..\n"
     "Asks a Modbus unit and shows what it says, a line for each value: the table, the cell, the value.\n"
     "\n"
     "  --tcp        HOST:PORT over TCP; a name, an IPv4 address or an IPv6 address in brackets (127.0.0.1:1502; a HOST\n"
@@ -27,6 +29,8 @@ static const char usage[] =
     "  --help                this text\n"
     "\n"
     "Numbers are decimal or, after 0x, hex. Cells count from 0. A coil's value is 0 or 1.\n"
+    "A mask keeps the bits of a holding where AND has a one, and makes the others OR's (function 22). An exchange writes\n"
+    "holdings and then reads COUNT of them, in one request (function 23).\n"
     "Status: 0 the unit answered, 1 it refused, nothing right came, or nothing in time, 2 the command line is wrong.\n";
 
 static int is(const char *a, const char *b) { return strcmp(a, b) == 0; }
@@ -91,16 +95,22 @@ static uint8_t table_of(const char *name) {
     return 0;
 }
 
+/* Those to be written, and room for all that can come. */
+static int set_values(struct wanted *w, char **argv) {
+    w->values = calloc(w->write_count > MOST_READ ? w->write_count : MOST_READ, sizeof *w->values);
+    if (w->values == NULL) return wrong("there is no memory");
+    for (size_t i = 0; i < w->write_count; i++)
+        if (!set_number(argv[i], 65535, &w->values[i])) return wrong("%s: a value is a number from 0 to 65535", argv[i]);
+    return -1;
+}
+
 static int read_what(struct wanted *w, int argc, char **argv) {
-    uint16_t count;
     if (argc != 4 || (w->func = table_of(argv[1])) == 0)
         return wrong("read coils|discretes|holdings|inputs FIRST COUNT is wanted (--help says more)");
     if (!set_number(argv[2], 65535, &w->first)) return wrong("%s: a cell is a number from 0 to 65535", argv[2]);
-    if (!set_number(argv[3], 65535, &count)) return wrong("%s: a count is a number from 0 to 65535", argv[3]);
+    if (!set_number(argv[3], 65535, &w->count)) return wrong("%s: a count is a number from 0 to 65535", argv[3]);
     w->table = argv[1];
-    w->count = count;
-    w->values = calloc(2000, sizeof *w->values);
-    return w->values == NULL ? wrong("there is no memory") : -1;
+    return set_values(w, NULL);
 }
 
 /* One value goes by functions 5 and 6, which write one, unless --many says otherwise. */
@@ -108,18 +118,36 @@ static int write_what(struct wanted *w, int argc, char **argv, int many) {
     int coils = argc > 1 && (is(argv[1], "coil") || is(argv[1], "coils"));
     if (argc < 4 || !(coils || is(argv[1], "holding") || is(argv[1], "holdings")))
         return wrong("write coil|coils|holding|holdings FIRST VALUE.. is wanted (--help says more)");
-    if (!set_number(argv[2], 65535, &w->first)) return wrong("%s: a cell is a number from 0 to 65535", argv[2]);
+    if (!set_number(argv[2], 65535, &w->write_first)) return wrong("%s: a cell is a number from 0 to 65535", argv[2]);
     w->writes = 1;
     w->table = coils ? "coils" : "holdings";
-    w->count = (size_t)argc - 3;
-    many |= w->count > 1;
+    w->write_count = (size_t)argc - 3;
+    many |= w->write_count > 1;
     w->func = coils ? (many ? 15 : 5) : many ? 16 : 6;
-    w->values = calloc(w->count, sizeof *w->values);
-    if (w->values == NULL) return wrong("there is no memory");
-    for (size_t i = 0; i < w->count; i++)
-        if (!set_number(argv[3 + i], 65535, &w->values[i]))
-            return wrong("%s: a value is a number from 0 to 65535", argv[3 + i]);
+    return set_values(w, argv + 3);
+}
+
+static int mask_what(struct wanted *w, int argc, char **argv) {
+    if (argc != 4) return wrong("mask HOLDING AND OR is wanted (--help says more)");
+    if (!set_number(argv[1], 65535, &w->first)) return wrong("%s: a cell is a number from 0 to 65535", argv[1]);
+    for (int i = 0; i < 2; i++)
+        if (!set_number(argv[2 + i], 65535, &w->masks[i]))
+            return wrong("%s: a mask is a number from 0 to 65535", argv[2 + i]);
+    w->writes = 1;
+    w->func = 22;
+    w->table = "holdings";
     return -1;
+}
+
+static int exchange_what(struct wanted *w, int argc, char **argv) {
+    if (argc < 5) return wrong("exchange READ_FIRST COUNT WRITE_FIRST VALUE.. is wanted (--help says more)");
+    if (!set_number(argv[1], 65535, &w->first)) return wrong("%s: a cell is a number from 0 to 65535", argv[1]);
+    if (!set_number(argv[2], 65535, &w->count)) return wrong("%s: a count is a number from 0 to 65535", argv[2]);
+    if (!set_number(argv[3], 65535, &w->write_first)) return wrong("%s: a cell is a number from 0 to 65535", argv[3]);
+    w->func = 23;
+    w->table = "holdings";
+    w->write_count = (size_t)argc - 4;
+    return set_values(w, argv + 4);
 }
 
 int wanted_read(struct wanted *w, int argc, char **argv) {
@@ -144,5 +172,7 @@ int wanted_read(struct wanted *w, int argc, char **argv) {
     if (w->mode == NULL) w->mode = serial_mode(w->to.proto);
     if (i < argc && is(argv[i], "read")) return read_what(w, argc - i, argv + i);
     if (i < argc && is(argv[i], "write")) return write_what(w, argc - i, argv + i, many);
-    return wrong("read or write is wanted, and what (--help says more)");
+    if (i < argc && is(argv[i], "mask")) return mask_what(w, argc - i, argv + i);
+    if (i < argc && is(argv[i], "exchange")) return exchange_what(w, argc - i, argv + i);
+    return wrong("read, write, mask or exchange is wanted, and what (--help says more)");
 }

@@ -3,6 +3,8 @@
 #define ASK_OPTIONS_H
 #include "dalonjang.h"
 
+enum { MOST_READ = 2000 }; /* values that one reply can have */
+
 struct wanted {
     struct dalonjang_request to;
     char host[256], port[8];      /* TCP */
@@ -14,10 +16,12 @@ struct wanted {
     int frames;                   /* what goes and comes is shown */
     const char *table;            /* coils, discretes, holdings, inputs */
     uint8_t func;
-    int writes;
-    uint16_t first;
-    uint16_t *values;             /* of a write those to be written, of a read room for all that can come */
-    size_t count;                 /* cells to be read or written */
+    int writes;                   /* an echo comes back, and no values */
+    uint16_t first, count;        /* cells to be read; the first alone for a mask */
+    uint16_t write_first;
+    size_t write_count;           /* cells to be written */
+    uint16_t *values;             /* those to be written, with room for all that can come */
+    uint16_t masks[2];            /* of a mask: which bits stay, and what the others become */
 };
 
 /* Answers -1 to go on; otherwise the status to end with, after --help or --version (0) or a line on what is wrong (2). */

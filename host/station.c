@@ -18,25 +18,29 @@ int station_open(struct station *s, const struct options *o) {
 
 struct request {
     uint8_t unit, function;
-    size_t first, second; /* the words after them */
+    size_t word[4]; /* those after them */
 };
 
-/* Of a frame that was served: it stands in the six bytes from the unit on, however the frame travels. A body that is
+/* Of a frame that was served: it stands in the ten bytes from the unit on, however the frame travels. A body that is
  * shorter has no words. */
 static struct request request_of(uint8_t transport, const uint8_t *frame, size_t len) {
     uint8_t body[255] = {0};
     size_t header = transport == DALONJANG_TCP ? 6 : 0;
     if (transport == DALONJANG_ASCII) dalonjang_parse_ascii_frame(frame, len, len, body, sizeof body, 0);
     else if (len > header) memcpy(body, frame + header, len - header < sizeof body ? len - header : sizeof body);
-    return (struct request){body[0], body[1], (size_t)body[2] << 8 | body[3], (size_t)body[4] << 8 | body[5]};
+    struct request asked = {.unit = body[0], .function = body[1]};
+    for (size_t i = 0; i < 4; i++) asked.word[i] = (size_t)body[2 + 2 * i] << 8 | body[3 + 2 * i];
+    return asked;
 }
 
 static struct written written_by(struct request asked) {
     switch (asked.function) {
-    case 5: return (struct written){COILS, asked.first, 1};
-    case 6: return (struct written){HOLDINGS, asked.first, 1};
-    case 15: return (struct written){COILS, asked.first, asked.second};
-    case 16: return (struct written){HOLDINGS, asked.first, asked.second};
+    case 5: return (struct written){COILS, asked.word[0], 1};
+    case 6: return (struct written){HOLDINGS, asked.word[0], 1};
+    case 15: return (struct written){COILS, asked.word[0], asked.word[1]};
+    case 16: return (struct written){HOLDINGS, asked.word[0], asked.word[1]};
+    case 22: return (struct written){HOLDINGS, asked.word[0], 1};
+    case 23: return (struct written){HOLDINGS, asked.word[2], asked.word[3]}; /* after the cells that it reads */
     default: return (struct written){0, 0, 0};
     }
 }

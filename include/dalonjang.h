@@ -3,7 +3,7 @@
  * One call takes one whole request frame as it came over the line, serves it on four tables that you lend, and writes
  * the reply frame into a buffer that you lend. Two more calls collect an RTU frame from bytes as the UART brings them,
  * and serve it when the line is quiet. Four more help to find where a frame ends, and turn bytes into Modbus ASCII text
- * and back. Three are for whoever asks: they build requests and read the replies.
+ * and back. Five are for whoever asks: they build requests and read the replies.
  *
  * Slices. Every buffer is a pointer, then its length in bytes. A NULL with length 0 is an empty slice. A pointer need
  *   only be good for exactly that many bytes: nothing is read or written before or after them, and bytes need not be
@@ -12,10 +12,10 @@
  *   The calls cannot see an overlap and do not refuse it.
  * State. There is none: no allocation, no static data, no input or output. Every call is reentrant and may run in any
  *   thread or interrupt, as long as nobody else uses the lent buffers meanwhile.
- * Stack. Leave 1 KiB for a call, and 2 for one that asks. dalonjang_drive takes the most: up to 850 bytes on cortex-m0,
- *   800 on cortex-m3, 800 on cortex-m4, 750 on armv7, 750 on x86_64, 700 on aarch64; of those that ask
- *   dalonjang_generate_set: up to 1600 bytes on cortex-m0, 1500 on cortex-m3, 1500 on cortex-m4, 1250 on armv7, 1300 on
- *   x86_64, 1200 on aarch64; arguments that lie on the stack (at most 104) come on top. No recursion.
+ * Stack. Leave 1 KiB for a call, and 2 for one that asks. dalonjang_drive takes the most: up to 950 bytes on cortex-m0,
+ *   900 on cortex-m3, 900 on cortex-m4, 800 on armv7, 750 on x86_64, 750 on aarch64; of those that ask
+ *   dalonjang_generate_set: up to 1650 bytes on cortex-m0, 1550 on cortex-m3, 1550 on cortex-m4, 1300 on armv7, 1300 on
+ *   x86_64, 1250 on aarch64; arguments that lie on the stack (at most 104) come on top. No recursion.
  * Interrupts. A call may be interrupted, and may be made in an interrupt that keeps what any C function may change. On
  *   a Cortex-M the processor does that by itself: no register of a floating point unit is touched. On x86-64 and ARM
  *   with Linux the vector registers are used, and on x86-64 the 128 bytes below the stack pointer (the red zone).
@@ -74,7 +74,7 @@ enum dalonjang_outcome {
     DALONJANG_ANSWERED = 0,          /* served for our unit: send the reply. Code 0 */
     DALONJANG_BROADCAST_DONE = 1,    /* a write served for a broadcast number: no reply is sent. Code 0 */
     DALONJANG_EXCEPTION = 2,         /* refused with a code of 1 to 3: send the reply, it carries the code */
-    DALONJANG_BROADCAST_IGNORED = 3, /* to a broadcast number: a read (code 0), or a fault with its code of 1 to 3 */
+    DALONJANG_BROADCAST_IGNORED = 3, /* to a broadcast number: a read or 23 (code 0), or a fault with its code */
     DALONJANG_FOREIGN = 4,           /* for another unit. Code 0, as for all below */
     DALONJANG_FRAME_BROKEN = 5,      /* not the shape of a frame: length, header, digits, colon, CR LF */
     DALONJANG_FRAME_CHECK = 6,       /* the CRC or LRC is wrong */
@@ -90,8 +90,8 @@ enum dalonjang_outcome {
 /* The code of an exception, as the Modbus document numbers them. */
 enum dalonjang_code {
     DALONJANG_NO_CODE = 0,
-    DALONJANG_ILLEGAL_FUNCTION = 1,     /* a function below 128 other than 1, 2, 3, 4, 5, 6, 15 and 16 */
-    DALONJANG_ILLEGAL_DATA_ADDRESS = 2, /* start + count is more than the cells of the table */
+    DALONJANG_ILLEGAL_FUNCTION = 1,     /* a function below 128 that is none of the ten */
+    DALONJANG_ILLEGAL_DATA_ADDRESS = 2, /* start + count is more than the cells of the table; of 23, in either range */
     DALONJANG_ILLEGAL_DATA_VALUE = 3    /* a count, byte count or coil value outside the Modbus document's limits */
 };
 
@@ -110,6 +110,14 @@ struct dalonjang_setup {
 
 /* Serves one request frame.
  *
+ * The ten functions, by their numbers in the Modbus document:
+ *   1, 2         read 1 to 2000 coils, discretes
+ *   3, 4         read 1 to 125 holdings, inputs
+ *   5, 6         write one coil, holding
+ *   15, 16       write 1 to 1968 coils, 1 to 123 holdings
+ *   22           masks one holding by A and B: its new value is (old & A) | (B & ~A); a write
+ *   23           writes 1 to 121 holdings and then reads 1 to 125, both or nothing; to a broadcast number a read
+ *
  * setup          the numbers above.
  * list           the broadcast numbers, mostly {0}; may be empty. The list wins: if our unit number stands in it, every
  *                request to us is a broadcast and none is answered.
@@ -126,9 +134,9 @@ struct dalonjang_setup {
  *   reply        the first `length` bytes are the reply frame, ready to be sent; all others are as you lent them. With
  *                length 0 the whole buffer is as lent.
  *   coils, holdings
- *                ANSWERED and BROADCAST_DONE of functions 5, 6, 15 and 16 store exactly the cells that the request
- *                names. Every other cell, and the spare bits and bytes after the last cell, stay; after every other
- *                outcome the whole table is as lent.
+ *                ANSWERED and BROADCAST_DONE of functions 5, 6, 15, 16, 22 and 23 store exactly the cells that the
+ *                request names to be written. Every other cell, and the spare bits and bytes after the last cell,
+ *                stay; after every other outcome the whole table is as lent.
  *   list, discretes, inputs, frame
  *                never written. */
 struct dalonjang_result dalonjang_drive(struct dalonjang_setup setup, const uint8_t *list, size_t list_len,
@@ -227,15 +235,17 @@ static inline struct dalonjang_result dalonjang_serve_quiet(const struct dalonja
  * BAD_SETUP      proto above 2.
  * An unknown function is guessed as six bytes between header and check. Nothing is written in any case.
  *
- * The guess is the crate's, and answers in a byte: dalonjang_drive takes longer frames than it does. So on TCP do not
- * ask it: six bytes of header have come, and the frame is 6 and bytes 4 and 5, high first; a number outside 2 to 254
- * there is no Modbus frame. On ASCII go to the LF: a line may have 511 characters. On RTU its limit costs only a write
- * that is refused anyway (byte counts above 246); there the silence of the line ends a frame. */
+ * The guess is the crate's, and answers in a byte: dalonjang_drive takes longer frames than it does. Nor does the crate
+ * know functions 22 and 23, whose guess is that of an unknown one: too short, since they have 8 bytes there, and 11 and
+ * the byte count. So on TCP do not ask it: six bytes of header have come, and the frame is 6 and bytes 4 and 5, high
+ * first; a number outside 2 to 254 there is no Modbus frame. On ASCII go to the LF: a line may have 511 characters. On
+ * RTU the silence of the line ends a frame; there its limit costs only a write that is refused anyway (byte counts
+ * above 246). */
 struct dalonjang_answer dalonjang_guess_request_frame_len(const uint8_t *frame, size_t frame_len, uint8_t proto);
 
 /* The same for a response, for whoever asks: functions 1 to 4 by the byte count in the third byte (at most 250 on RTU,
  * 122 on ASCII), an exception (function 128 and above) from two bytes on, all others from three bytes on. A function
- * below 128 that is not served is FRAME_BROKEN. Nothing is written in any case. */
+ * below 128 that the crate does not know, so 22 and 23 too, is FRAME_BROKEN. Nothing is written in any case. */
 struct dalonjang_answer dalonjang_guess_response_frame_len(const uint8_t *buf, size_t buf_len, uint8_t proto);
 
 /* Turns Modbus ASCII text into bytes, all of a line or the next part of one.
@@ -299,9 +309,28 @@ struct dalonjang_answer dalonjang_generate_get(struct dalonjang_request to, uint
 struct dalonjang_answer dalonjang_generate_set(struct dalonjang_request to, uint8_t func, uint16_t reg,
     const uint16_t *values, size_t count, uint8_t *request, size_t request_len);
 
+/* The same for function 22, which flips single bits of a holding: its new value is (old & and_mask) | (or_mask &
+ * ~and_mask). A bit keeps its value where and_mask has a one, and takes or_mask's elsewhere.
+ *
+ * reg            the holding. Every holding and every mask may be asked: BAD_REQUEST is for proto above 2 alone.
+ * NO_ROOM        request is shorter than 10 bytes on RTU, 21 on ASCII, 14 on TCP. */
+struct dalonjang_answer dalonjang_generate_mask(struct dalonjang_request to, uint16_t reg, uint16_t and_mask,
+    uint16_t or_mask, uint8_t *request, size_t request_len);
+
+/* The same for function 23, which reads holdings after it has written some, in one request.
+ *
+ * reg, count     the first holding to be read, and how many: 1 to 125.
+ * write_reg, values, write_count
+ *                the first holding to be written, and its values: 1 to 121. Where both ranges share a holding, what is
+ *                read there is what was written.
+ * BAD_REQUEST    proto above 2, a count outside its limits, or a cell beyond 65,535 in either range.
+ * The longest frame: 255 bytes on RTU, 511 on ASCII, 259 on TCP. */
+struct dalonjang_answer dalonjang_generate_set_get(struct dalonjang_request to, uint16_t reg, uint16_t count,
+    uint16_t write_reg, const uint16_t *values, size_t write_count, uint8_t *request, size_t request_len);
+
 /* What a reply says. */
 struct dalonjang_reading {
-    size_t count;    /* how many values were read; 0 after a write, and with every other outcome than 0 */
+    size_t count;    /* how many values were read; 0 after a write alone, and with every other outcome than 0 */
     uint8_t outcome; /* enum dalonjang_outcome: 0 ANSWERED, 2 EXCEPTION, or a refusal */
     uint8_t code;    /* the exception's code, 1 to 255; else 0 */
 };
@@ -313,7 +342,8 @@ struct dalonjang_reading {
  * response       the reply's frame, whole and as it came.
  * values         room for the values, which go to its front; a write needs none.
  * ANSWERED       the reply is of this transaction and unit and answers this request: `count` values are the cells'
- *                contents as the server sent them. After a write: its echo came, and count is 0.
+ *                contents as the server sent them, of 23 after its write. After a write: its echo came, of 22 all 8
+ *                bytes, and count is 0.
  * EXCEPTION      the unit refused this request, with `code`.
  * The first of these decides, and nothing is written:
  * BAD_REQUEST    proto above 2, or `request` is no frame of a request that dalonjang_generate_.. builds.

@@ -2,7 +2,8 @@
  * vectors/src/drive/record.rs) and compares outcome, code, length and every lent byte with what is expected. Each
  * buffer stands against a page that cannot be touched.
  * Status: 0 all equal and at least N calls, 1 a difference, 2 a short or malformed stream.
- * Built with -DFAULT=1 to 6 the library's answer is made slightly wrong (../tests/asked.h), to show that it is seen. */
+ * Built with -DFAULT=1 to 7 or 10 to 12 the library's answer is made slightly wrong (../tests/asked.h), to show that it
+ * is seen. */
 #include "../tests/asked.h"
 #include "../tests/fence.h"
 #include "stream.h"

@@ -1,6 +1,6 @@
 """The bench tool and those that reply with something else: no value is ever shown."""
 from asking import FakeLine, FakeTcp, answered, ask, refused
-from serving import asked, check, same, tcp, words
+from serving import asked, check, exchanged, masked, same, tcp, words
 
 READ = ["read", "holdings", 0, 2]
 RIGHT = bytes([1, 3, 4]) + words(258, 772)
@@ -24,6 +24,18 @@ ECHOES = ((asked(16, 5, 1), "NotMyReply"), (asked(16, 4, 2), "NotMyReply"), (ask
           (asked(16, 5, 2, unit=3), "NotMyReply"), (asked(16, 5, 2)[:5], "NotMyReply"),
           (asked(16, 5, 2, words(77, 78)), "NotMyReply"), (bytes([1, 0x90, 4]), "exception 4, server device failure"))
 
+MASK = ["mask", 2, "0xF2", "0x25"]
+MASKS = ((masked(3, 0xF2, 0x25), "NotMyReply"), (masked(2, 0xF3, 0x25), "NotMyReply"),
+         (masked(2, 0xF2, 0x24), "NotMyReply"), (masked(2, 0xF2, 0x25)[:6], "NotMyReply"),
+         (masked(2, 0xF2, 0x25) + b"\0", "NotMyReply"), (masked(2, 0xF2, 0x25, unit=3), "NotMyReply"),
+         (bytes([1, 0x96, 2]), "exception 2, illegal data address"))
+
+EXCHANGE = ["exchange", 0, 2, 5, 77, 78, 79]
+READ_THEN = bytes([1, 23]) + RIGHT[2:]
+EXCHANGES = ((RIGHT, "NotMyReply"), (bytes([1, 23, 6]) + words(77, 78, 79), "NotMyReply"), (READ_THEN[:-1], "NotMyReply"),
+             (READ_THEN + b"\0", "NotMyReply"), (exchanged(0, 2, 5, words(77, 78, 79)), "NotMyReply"),
+             (bytes([3]) + READ_THEN[1:], "NotMyReply"), (bytes([1, 0x97, 3]), "exception 3, illegal data value"))
+
 
 def whoever(tool, fake):
     """What is the same on every transport."""
@@ -33,7 +45,13 @@ def whoever(tool, fake):
     fake.pieces = [fake.wrap(asked(16, 5, 2))]
     answered(tool, ["written: 2 holdings from 5 on"], *fake.where, *WRITE)
     same(fake.heard, fake.wrap(asked(16, 5, 2, words(77, 78))), "the request")
-    for words_asked, replies in ((READ, OTHERS), (WRITE, ECHOES)):
+    fake.pieces = [fake.wrap(masked(2, 0xF2, 0x25))]
+    answered(tool, ["masked: holding 2 by 0x00F2 and 0x0025"], *fake.where, *MASK)
+    same(fake.heard, fake.wrap(masked(2, 0xF2, 0x25)), "the request")
+    fake.pieces = [fake.wrap(READ_THEN)]
+    answered(tool, ["written: 3 holdings from 5 on", "holdings 0 258", "holdings 1 772"], *fake.where, *EXCHANGE)
+    same(fake.heard, fake.wrap(exchanged(0, 2, 5, words(77, 78, 79))), "the request")
+    for words_asked, replies in ((READ, OTHERS), (WRITE, ECHOES), (MASK, MASKS), (EXCHANGE, EXCHANGES)):
         for body, says in replies:
             fake.pieces = [fake.wrap(body)]
             refused(tool, says, *fake.where, *words_asked)

@@ -52,6 +52,14 @@ def functions(tool, where):
     answered(tool, shown("coils", 8, bits + 24 * [0]), *where, "read", "coils", 8, 1992)
     answered(tool, ["written: 123 holdings from 100 on"], *where, "write", "holdings", 100, *registers)
     answered(tool, shown("holdings", 100, registers + [0, 0]), *where, "read", "holdings", 100, 125)
+    answered(tool, ["written: 1 holdings from 300 on"], *where, "write", "holding", 300, "0x12")
+    answered(tool, ["masked: holding 300 by 0x00F2 and 0x0025"], *where, "mask", 300, "0xF2", "0x25")
+    answered(tool, ["written: 2 holdings from 301 on", *shown("holdings", 300, [0x17, 7])],
+             *where, "exchange", 300, 2, 301, 7, 8)
+    answered(tool, ["written: 121 holdings from 303 on", *shown("holdings", 299, [0, 0x17, 7, 8] + registers[:121])],
+             *where, "exchange", 299, 125, 303, *registers[:121])
+    refused(tool, "exception 2, illegal data address", *where, "mask", CELLS, 0, 1)
+    refused(tool, "exception 2, illegal data address", *where, "exchange", CELLS - 1, 2, 300, 9)
     refused(tool, "exception 2, illegal data address", *where, "read", "holdings", CELLS - 1, 2)
     refused(tool, "exception 2, illegal data address", *where, "write", "coil", CELLS, 1)
 
@@ -66,8 +74,8 @@ def main():
         except (Wrong, OSError, subprocess.TimeoutExpired) as fault:
             print(f"wrong: {run}: {fault}")
             return 1
-        print(f"ask and {name} over {transport.upper()}: functions 1 2 3 4 5 6 15 16; 1992 coils and 125 registers read, "
-              "1968 and 123 written; exception 2", flush=True)
+        print(f"ask and {name} over {transport.upper()}: functions 1 2 3 4 5 6 15 16 22 23; 1992 coils and 125 registers "
+              "read, 1968 and 123 written, 125 and 121 exchanged; exception 2", flush=True)
     return 0
 
 

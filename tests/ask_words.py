@@ -8,6 +8,9 @@ WRONG = ("", "read", "write", "listen", "read holdings", "read holdings 0", "rea
          "read holding 0 1", "read holdings -1 1", "read holdings 65536 1", "read holdings 0x10000 1",
          "read holdings 0 65536", "read holdings 0 one", "read holdings 0 1 --unit 2", "write discretes 0 1",
          "write inputs 0 1", "write coils 0",
+         "mask", "mask 0 1", "mask 0 1 2 3", "mask 65536 1 2", "mask 0 65536 1", "mask 0 1 -1", "mask holdings 0 1 2",
+         "exchange", "exchange 0 1 2", "exchange 65536 1 0 1", "exchange 0 65536 0 1", "exchange 0 1 65536 1",
+         "exchange 0 1 0 65536", "exchange 0 1 0 1 one", "exchange holdings 0 1 0 1",
          "write holdings 0 65536", "write holdings 0 1 -1", "write holdings 0 0x", "write coils 70000 1", "--nothing",
          "--unit", "--unit 256 read coils 0 1", "--unit one read coils 0 1", "--tcp", "--tcp :1 read coils 0 1",
          "--tcp [::1 read coils 0 1", "--tcp [::1]502 read coils 0 1", "--tcp 127.0.0.1:0 read coils 0 1",
@@ -19,7 +22,8 @@ WRONG = ("", "read", "write", "listen", "read holdings", "read holdings 0", "rea
 # what the library does not build, though these are numbers
 UNASKED = ("read coils 0 0", "read coils 0 2001", "read discretes 0 2001", "read holdings 0 126", "read inputs 0 0",
            "read holdings 65535 2", "write coil 0 2", "write coils 0 1 0 2", "write coils 65535 1 1",
-           "write holdings 0 " + 124 * "1 ", "write coils 0 " + 1969 * "1 ")
+           "write holdings 0 " + 124 * "1 ", "write coils 0 " + 1969 * "1 ", "exchange 0 0 0 1", "exchange 0 126 0 1",
+           "exchange 65535 2 0 1", "exchange 0 1 65535 1 1", "exchange 0 1 0 " + 122 * "1 ", "exchange 0 1 0 " + 2001 * "1 ")
 
 
 def test_words(tool, _):

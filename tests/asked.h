@@ -1,9 +1,10 @@
 /* One call of dalonjang_drive as a record, for the programs that test it, and the same by the collector. Built with
- * -DFAULT=1 to 7 the driver's answer is made slightly wrong on its way back, and the collector's with 8 and 9, to show
- * that a program sees it. */
+ * -DFAULT=1 to 7 or 10 to 12 the driver's answer is made slightly wrong on its way back, and the collector's with 8 and
+ * 9, to show that a program sees it. */
 #ifndef ASKED_H
 #define ASKED_H
 #include "../include/dalonjang.h"
+#include <string.h>
 
 #ifndef FAULT
 #define FAULT 0
@@ -29,8 +30,12 @@ uint16_t model_crc(const uint8_t *bytes, size_t n);
 int model_unwrap(uint8_t transport, const uint8_t *frame, size_t len, uint8_t *body, size_t *n);
 /* Puts header and check around a body; answers the frame's length. The tag is TCP's transaction number. */
 size_t model_wrap(uint8_t transport, const uint8_t *tag, const uint8_t *body, size_t n, uint8_t *frame);
-/* Whether count, byte count or coil value of a request of the right length are within their limits. */
+/* Whether a body has the length that a request of its function, which is served, has. */
+int model_length_right(const uint8_t *body, size_t n);
+/* Whether counts, byte count or coil value of a request of the right length are within their limits. */
 int model_value_right(const uint8_t *body);
+/* Whether all cells that such a request names are among the first so many. */
+int model_inside(const uint8_t *body, size_t cells);
 
 static inline size_t word(const uint8_t *bytes) { return (size_t)bytes[0] << 8 | bytes[1]; }
 
@@ -41,8 +46,16 @@ static inline struct dalonjang_result echoed(const struct asked *a) {
     return (struct dalonjang_result){12, DALONJANG_ANSWERED, 0};
 }
 
+/* The holdings that a frame of function 23 reads, as they are before it, on TCP. */
+static inline void keep_old(const struct asked *a, uint8_t *old) {
+    const uint8_t *body = a->frame.bytes + 6;
+    if (a->transport != DALONJANG_TCP || a->frame.len < 12 || body[1] != 23 || word(body + 4) > 125) return;
+    size_t from = 2 * word(body + 2), bytes = 2 * word(body + 4);
+    if (from + bytes <= a->table[HOLDINGS].len) memcpy(old, a->table[HOLDINGS].bytes + from, bytes);
+}
+
 /* The answer as a slightly wrong driver would give it; fault 3 on RTU, the others on TCP. */
-static inline struct dalonjang_result spoilt(const struct asked *a, struct dalonjang_result r) {
+static inline struct dalonjang_result spoilt(const struct asked *a, struct dalonjang_result r, const uint8_t *old) {
     if (FAULT == 0 || a->transport != (FAULT == 3 ? DALONJANG_RTU : DALONJANG_TCP) || a->frame.len < 4
         || (FAULT != 3 && a->frame.len < 12)) return r;
     const uint8_t *body = a->frame.bytes + (FAULT == 3 ? 0 : 6);
@@ -81,6 +94,21 @@ static inline struct dalonjang_result spoilt(const struct asked *a, struct dalon
     case 7: /* a TCP frame above 256 bytes is broken, as in the crate */
         if (a->frame.len > 256) r = (struct dalonjang_result){0, DALONJANG_FRAME_BROKEN, 0};
         break;
+    case 10: /* function 23 reads before it writes */
+        if (r.outcome == DALONJANG_ANSWERED && function == 23) memcpy(reply + 9, old, 2 * count);
+        break;
+    case 11: /* a mask write has A in place of not A */
+        if (r.outcome <= DALONJANG_BROADCAST_DONE && function == 22)
+            for (size_t i = 0; i < 2; i++) {
+                uint8_t *byte = a->table[HOLDINGS].bytes + 2 * start + i;
+                *byte = (uint8_t)((*byte & body[4 + i]) | (body[6 + i] & body[4 + i]));
+            }
+        break;
+    case 12: /* function 23 writes before its read range is tested */
+        if (r.outcome == DALONJANG_EXCEPTION && r.code == DALONJANG_ILLEGAL_DATA_ADDRESS && function == 23
+            && word(body + 6) + word(body + 8) <= a->cells[HOLDINGS])
+            memcpy(a->table[HOLDINGS].bytes + 2 * word(body + 6), body + 11, body[10]);
+        break;
     default: break;
     }
     return r;
@@ -97,7 +125,9 @@ static inline struct dalonjang_unit unit_of(const struct asked *a) {
 /* Through dalonjang_serve, so that it is tested too. */
 static inline struct dalonjang_result drive(const struct asked *a) {
     struct dalonjang_unit unit = unit_of(a);
-    return spoilt(a, dalonjang_serve(&unit, a->frame.bytes, a->frame.len, a->reply.bytes, a->reply.len));
+    uint8_t old[250];
+    if (FAULT == 10) keep_old(a, old);
+    return spoilt(a, dalonjang_serve(&unit, a->frame.bytes, a->frame.len, a->reply.bytes, a->reply.len), old);
 }
 
 /* --- the collector ------------------------------------------------------------------------------------------------ */

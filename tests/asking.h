@@ -1,19 +1,21 @@
-/* One call of the asking side as a record, for the programs that test it. Built with -DFAULT=21 to 30 the library's
+/* One call of the asking side as a record, for the programs that test it. Built with -DFAULT=21 to 32 the library's
  * answer is made slightly wrong on its way back, to show that a program sees it. */
 #ifndef ASKING_H
 #define ASKING_H
 #include "asked.h"
 #include <string.h>
 
-enum asking_call { GET, SET, READ };
+enum asking_call { GET, SET, READ, MASK, SET_GET };
 
 struct asking {
     enum asking_call call;
     struct dalonjang_request to;     /* of READ the transport alone */
     uint8_t func;                    /* GET and SET */
-    uint16_t reg, count;             /* count: GET */
-    struct slice request, response;  /* GET and SET write the request, READ reads both */
-    uint16_t *values;                /* SET reads them, READ writes them */
+    uint16_t reg, count;             /* reg: all but READ; count: GET and SET_GET */
+    uint16_t and_mask, or_mask;      /* MASK */
+    uint16_t write_reg;              /* SET_GET */
+    struct slice request, response;  /* READ reads both, all others write the request */
+    uint16_t *values;                /* SET and SET_GET read them, READ writes them */
     size_t values_len;
 };
 
@@ -32,9 +34,13 @@ static inline struct told asked_of(const struct asking *a) {
             a->response.bytes, a->response.len, a->values, a->values_len);
         return (struct told){r.count, r.outcome, r.code};
     }
-    struct dalonjang_answer r = a->call == GET
-        ? dalonjang_generate_get(a->to, a->func, a->reg, a->count, a->request.bytes, a->request.len)
-        : dalonjang_generate_set(a->to, a->func, a->reg, a->values, a->values_len, a->request.bytes, a->request.len);
+    uint8_t *to = a->request.bytes;
+    size_t room = a->request.len;
+    struct dalonjang_answer r =
+        a->call == GET ? dalonjang_generate_get(a->to, a->func, a->reg, a->count, to, room)
+        : a->call == SET ? dalonjang_generate_set(a->to, a->func, a->reg, a->values, a->values_len, to, room)
+        : a->call == MASK ? dalonjang_generate_mask(a->to, a->reg, a->and_mask, a->or_mask, to, room)
+        : dalonjang_generate_set_get(a->to, a->reg, a->count, a->write_reg, a->values, a->values_len, to, room);
     return (struct told){r.value, r.kind, 0};
 }
 
@@ -63,7 +69,7 @@ static inline struct told spoilt_reading(const struct asking *a, struct told t) 
     if (t.kind == DALONJANG_NO_ROOM && FAULT == 30 && a->response.len == 9 && heard[7] == sent[7] + 128
         && memcmp(sent, heard, 2) == 0 && sent[6] == heard[6]) /* the room is tested after the reply */
         return (struct told){0, DALONJANG_EXCEPTION, heard[8]};
-    if (t.kind != DALONJANG_NOT_MY_REPLY || sent[7] > 16) return t;
+    if (t.kind != DALONJANG_NOT_MY_REPLY) return t;
     switch (FAULT) {
     case 24: return mended(a, 1, sent[1]); /* the low byte of the transaction is not compared */
     case 25: return mended(a, 6, sent[6]); /* nor the unit */
@@ -82,6 +88,7 @@ static inline struct told spoilt_reading(const struct asking *a, struct told t) 
     case 29: /* a value is written before the reply is known to be ours */
         if (a->values_len > 0) a->values[0] ^= 1;
         return t;
+    case 31: return sent[7] != 22 || a->response.len != 14 ? t : mended(a, 13, sent[13]); /* seven bytes of a mask's */
     default: return t;
     }
 }
@@ -97,6 +104,12 @@ static inline struct told spoilt_frame(const struct asking *a, struct told t) {
         break;
     case 23: /* the most that a frame can have is wanted of the buffer */
         if (t.kind == 0 && a->request.len < 260) t = (struct told){0, DALONJANG_KIND_NO_ROOM, 0};
+        break;
+    case 32: /* the two masks change places */
+        for (size_t i = 10; t.kind == 0 && a->call == MASK && i < 12; i++) {
+            uint8_t low = a->request.bytes[i];
+            a->request.bytes[i] = a->request.bytes[i + 2], a->request.bytes[i + 2] = low;
+        }
         break;
     default: break;
     }

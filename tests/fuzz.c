@@ -4,7 +4,8 @@
  *   - that nothing outside the lent buffers was touched: every buffer stands against a page that cannot be,
  *   - what the header promises of every call, without asking what the right answer is,
  *   - that outcome, code, reply and tables are those of the model, document 01's driver written plainly.
- * Status: 0 all right and, from 100,000 calls on, every outcome came up; 1 a difference; 2 wrong arguments. */
+ * Status: 0 all right and, from 100,000 calls on, every outcome came up and every function was served; 1 a difference; 2
+ * wrong arguments. */
 #include "asked.h"
 #include "chance.h"
 #include "fence.h"
@@ -67,34 +68,56 @@ static void put_word(size_t value) {
     body[body_len++] = (uint8_t)value;
 }
 
+/* So many cells of a table, mostly within it and the most that a function may name, often just at these limits. */
+static size_t random_count(size_t cells, size_t most) {
+    return percent(80) ? 1 + below(cells < most ? cells + 1 : most)
+           : percent(50) ? PICK(0, most, most + 1) : below(65536);
+}
+
+static size_t random_start(size_t cells, size_t extent) {
+    size_t last = cells > extent ? cells - extent : 0;
+    return percent(70) ? below(last + 1) : percent(60) ? near(last, 1)
+           : percent(50) ? near(65536 - extent, 1) : below(65536);
+}
+
+/* The byte count, mostly the right one, and its bytes. */
+static void put_data(size_t bytes) {
+    if (percent(6)) bytes = percent(60) ? near(bytes, 2) : below(256);
+    if (bytes > 255) bytes = 255;
+    body[body_len++] = (uint8_t)bytes;
+    for (size_t i = 0; i < bytes; i++) body[body_len++] = (uint8_t)chance();
+}
+
+/* The write of function 23, often over what it reads. */
+static void put_write(size_t cells, size_t read_start) {
+    size_t count = random_count(cells, 121), start = random_start(cells, count);
+    put_word(percent(40) ? near(read_start, 3) : start);
+    put_word(count);
+    put_data(2 * count);
+}
+
 /* A request, mostly within its table and its limits, often just at them. */
 static void random_body(void) {
-    static const uint8_t table_of[17] = {0, COILS, DISCRETES, HOLDINGS, INPUTS, COILS, HOLDINGS, 0, 0, 0, 0, 0, 0, 0, 0,
-                                         COILS, HOLDINGS};
-    size_t function = percent(92) ? PICK(1, 2, 3, 4, 5, 6, 15, 15, 16, 16)
-                      : percent(60) ? PICK(0, 7, 14, 17, 43, 127, 128, 255) : below(256);
-    size_t most = function <= 2 ? 2000 : function <= 4 ? 125 : function == 15 ? 1968 : 123;
-    size_t cells = call.cells[function <= 16 ? table_of[function] : 0];
+    static const uint8_t table_of[24] = {[1] = COILS, DISCRETES, HOLDINGS, INPUTS, COILS, HOLDINGS, [15] = COILS,
+                                         HOLDINGS, [22] = HOLDINGS, HOLDINGS};
+    size_t function = percent(92) ? PICK(1, 2, 3, 4, 5, 6, 15, 15, 16, 16, 22, 22, 23, 23, 23)
+                      : percent(60) ? PICK(0, 7, 14, 17, 21, 24, 43, 127, 128, 255) : below(256);
+    size_t most = function <= 2 ? 2000 : function <= 4 || function == 23 ? 125 : function == 15 ? 1968 : 123;
+    size_t cells = call.cells[function <= 23 ? table_of[function] : 0];
     if (cells > 65536) cells = 65536;
-    size_t count = percent(80) ? 1 + below(cells < most ? cells + 1 : most)
-                   : percent(50) ? PICK(0, most, most + 1) : below(65536);
-    size_t extent = function == 5 || function == 6 ? 1 : count, last = cells > extent ? cells - extent : 0;
-    size_t start = percent(70) ? below(last + 1) : percent(60) ? near(last, 1)
-                   : percent(50) ? near(65536 - extent, 1) : below(65536);
+    size_t count = random_count(cells, most);
+    size_t start = random_start(cells, function == 5 || function == 6 || function == 22 ? 1 : count);
     if (function == 5) count = percent(90) ? PICK(0, 0xFF00) : PICK(1, 0xFF01, 0xFEFF, 0xFE00, 0x0100, 0x00FF);
-    if (function == 6) count = chance();
+    if (function == 6 || function == 22) count = chance();
     body_len = 0;
     int listed = call.list.len > 0 && percent(90);
     body[body_len++] = (uint8_t)(percent(85) ? call.unit : listed ? call.list.bytes[0] : chance());
     body[body_len++] = (uint8_t)function;
     put_word(start);
     put_word(count);
-    if (function != 15 && function != 16) return;
-    size_t bytes = function == 15 ? (count + 7) / 8 : 2 * count;
-    if (percent(6)) bytes = percent(60) ? near(bytes, 2) : below(256);
-    if (bytes > 255) bytes = 255;
-    body[body_len++] = (uint8_t)bytes;
-    for (size_t i = 0; i < bytes; i++) body[body_len++] = (uint8_t)chance();
+    if (function == 15 || function == 16) put_data(function == 15 ? (count + 7) / 8 : 2 * count);
+    if (function == 22) put_word(chance());
+    if (function == 23) put_write(cells, start);
 }
 
 /* The body as a frame of the transport; answers its length. */
@@ -141,17 +164,21 @@ static void different(const char *what, const struct dalonjang_result *r) {
 
 static void touched(const char *what) { different(what, NULL); }
 
-/* What the request in a served frame writes: a table, -1 for none, and the bits of it that may change. */
-static int written(size_t *from, size_t *to) {
-    uint8_t b[6];
+/* Byte i of the request in a served frame, from the unit on. */
+static uint8_t request_byte(size_t i) {
     char pair[3] = {0};
-    for (size_t i = 0; i < 6; i++)
-        if (call.transport != DALONJANG_ASCII) b[i] = before[FRAME][i + (call.transport == DALONJANG_TCP ? 6 : 0)];
-        else b[i] = (uint8_t)strtoul(memcpy(pair, before[FRAME] + 1 + 2 * i, 2), NULL, 16);
-    size_t width = b[1] == 5 || b[1] == 15 ? 1 : 16, count = b[1] <= 6 ? 1 : word(b + 4);
-    *from = word(b + 2) * width;
+    if (call.transport != DALONJANG_ASCII) return before[FRAME][i + (call.transport == DALONJANG_TCP ? 6 : 0)];
+    return (uint8_t)strtoul(memcpy(pair, before[FRAME] + 1 + 2 * i, 2), NULL, 16);
+}
+
+/* What it writes: a table, -1 for none, and the bits of it that may change. */
+static int written(size_t *from, size_t *to) {
+    uint8_t function = request_byte(1), b[4]; /* first and count */
+    for (size_t i = 0; i < 4; i++) b[i] = request_byte((function == 23 ? 6 : 2) + i);
+    size_t width = function == 5 || function == 15 ? 1 : 16, count = function <= 6 || function == 22 ? 1 : word(b + 2);
+    *from = word(b) * width;
     *to = *from + count * width;
-    return b[1] <= 4 ? -1 : width == 1 ? COILS : HOLDINGS;
+    return function <= 4 ? -1 : width == 1 ? COILS : HOLDINGS;
 }
 
 /* No bit of this table changed but those from `from` on and before `to`; in registers the bytes are whole. */
@@ -199,8 +226,9 @@ static void check(struct dalonjang_result r) {
     }
     for (int i = 0; i < BUFFERS; i++)
         if (memcmp(expected[i], buffer(&call, i)->bytes, buffer(&call, i)->len) != 0) {
+            printf("%s", buffer_name[i]);
             print_bytes("model's", expected[i], buffer(&call, i)->len);
-            printf("\n%s: ", buffer_name[i]);
+            puts("");
             different("not the model's bytes", &r);
         }
 }
@@ -270,7 +298,8 @@ static void collect(struct dalonjang_result r) {
 }
 
 int main(int argc, char **argv) {
-    unsigned long calls = argc > 1 ? strtoul(argv[1], NULL, 10) : 1000000, count[OUTCOMES] = {0};
+    static const uint8_t functions[] = {1, 2, 3, 4, 5, 6, 15, 16, 22, 23};
+    unsigned long calls = argc > 1 ? strtoul(argv[1], NULL, 10) : 1000000, count[OUTCOMES] = {0}, served[256] = {0};
     if (argc > 2) seed = strtoul(argv[2], NULL, 10);
     if (calls == 0 || argc > 3) {
         fputs("usage: fuzz [N [SEED]]\n", stderr);
@@ -287,6 +316,7 @@ int main(int argc, char **argv) {
         struct dalonjang_result r = drive(&call);
         check(r);
         count[r.outcome]++;
+        if (r.outcome == DALONJANG_ANSWERED) served[request_byte(1)]++;
         lend_collector();
         collect(r);
         for (int i = 0; i < BUFFERS; i++) memset(buffer(&call, i)->bytes, UNTOUCHED, buffer(&call, i)->len);
@@ -297,6 +327,11 @@ int main(int argc, char **argv) {
     for (int o = 0; o < OUTCOMES; o++)
         if (count[o] == 0 && calls >= 100000) {
             printf("the outcome \"%s\" never came up\n", outcome_name[o]);
+            return 1;
+        }
+    for (size_t i = 0; i < sizeof functions; i++)
+        if (served[functions[i]] == 0 && calls >= 100000) {
+            printf("function %u was never served\n", functions[i]);
             return 1;
         }
     return 0;

@@ -9,7 +9,7 @@ import tempfile
 import threading
 
 from preset import PRESET
-from serving import PATIENCE, Client, Server, Wrong, asked, check, run, same, tcp, values_of, words
+from serving import PATIENCE, Client, Server, Wrong, asked, check, exchanged, masked, run, same, tcp, values_of, words
 
 
 @contextlib.contextmanager
@@ -41,14 +41,16 @@ def test_image_comes_back(program):
         with Server(program, "--image", path) as server, Client(server.port) as client:
             client.ask(asked(16, 5, 3, words(1, 2, 65535)))
             client.ask(asked(15, 30, 4, b"\x0b"))
+            client.ask(exchanged(0, 1, 8, words(0x12, 52)))
+            client.ask(masked(8, 0xF2, 0x25))
         same(os.listdir(room), ["image"], "the files beside the image after the end")
         text = exported(program, "--image", path)
         check("# written by --export" in text[1], "the text does not say who wrote it")
         same(text[:1] + text[2:], [
             "dalonjang tables", "coils 16 " + " ".join("0" * 14 + "11"), "coils 32 " + " ".join("01" + "0" * 14),
-            "holdings 0 0 0 0 0 0 1 2 65535 0 0 0 0 0 0 0 0", "end"], "the text")
+            "holdings 0 0 0 0 0 0 1 2 65535 23 52 0 0 0 0 0 0", "end"], "the text")
         with Server(program, "--image", path) as server, Client(server.port) as client:
-            same(values_of(client.ask(asked(3, 4, 5))), [0, 1, 2, 65535, 0], "the registers that come back")
+            same(values_of(client.ask(asked(3, 4, 7))), [0, 1, 2, 65535, 23, 52, 0], "the registers that come back")
             same(client.ask(asked(1, 28, 8)), bytes([1, 1, 1, 0b00101100]), "the coils that come back")
 
 

@@ -1,6 +1,6 @@
 """Requests to the server and their replies, over each transport."""
 from preset import Preset, READ, exchange
-from serving import Client, Line, Server, ascii_line, asked, check, rtu, soon, tcp, words
+from serving import Client, Line, Server, ascii_line, asked, check, exchanged, masked, rtu, soon, tcp, words
 
 
 def rows(most_coils, most_registers):
@@ -8,6 +8,7 @@ def rows(most_coils, most_registers):
     Reads after the writes look at what was stored."""
     coils = bytes(n * 37 % 256 for n in range(most_coils // 8))
     registers = words(*(n * 517 for n in range(most_registers)))
+    exchange_most = words(*(n * 401 for n in range(121)))
     return (
         (asked(3, 0, 4), bytes([1, 3, 8]) + words(258, 772, 0, 65535)),
         (asked(4, 0, 2), bytes([1, 4, 4]) + words(17, 0x1234)),
@@ -32,10 +33,22 @@ def rows(most_coils, most_registers):
         (asked(6, 8, 88, unit=0), b""),
         (asked(3, 8, 1, unit=0), b""),
         (asked(3, 8, 2), bytes([1, 3, 4]) + words(88, 0)),
+        (masked(2, 0x00F2, 0x0025), masked(2, 0x00F2, 0x0025)),
+        (exchanged(2, 3, 4, words(7, 8)), bytes([1, 23, 6]) + words(0x00C5, 65535, 7)),
+        (asked(3, 2, 4), bytes([1, 3, 8]) + words(0x00C5, 65535, 7, 8)),
+        (masked(1000, 0x00F2, 0x0025), bytes([1, 0x96, 2])),
+        (exchanged(999, 2, 4, words(9)), bytes([1, 0x97, 2])),
+        (exchanged(4, 1, 999, words(9, 9)), bytes([1, 0x97, 2])),
+        (exchanged(4, 0, 4, words(9)), bytes([1, 0x97, 3])),
+        (exchanged(4, 126, 4, words(9)), bytes([1, 0x97, 3])),
+        (masked(10, 0, 99, unit=0), b""),
+        (exchanged(4, 1, 4, words(9), unit=0), b""),
+        (exchanged(4, 7, 11, words(5)), bytes([1, 23, 14]) + words(7, 8, 0, 0, 88, 0, 99)),
         (asked(15, 0, most_coils, coils), asked(15, 0, most_coils)),
         (asked(1, 0, 2000), bytes([1, 1, 250]) + coils + bytes(250 - len(coils))),
         (asked(16, 100, most_registers, registers), asked(16, 100, most_registers)),
         (asked(3, 100, 125), bytes([1, 3, 250]) + registers + bytes(250 - len(registers))),
+        (exchanged(100, 125, 104, exchange_most), bytes([1, 23, 250]) + registers[:8] + exchange_most),
     )
 
 

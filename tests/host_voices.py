@@ -7,7 +7,7 @@ import subprocess
 import tempfile
 
 from preset import Preset, READ, READ_REPLY, exchange
-from serving import PATIENCE, Client, Line, Server, ascii_line, asked, check, rtu, same, soon, tcp, words
+from serving import PATIENCE, Client, Line, Server, ascii_line, asked, check, exchanged, masked, rtu, same, soon, tcp, words
 
 
 def test_log(program):
@@ -16,6 +16,12 @@ def test_log(program):
         (READ, "Answered, reply ", READ_REPLY), (asked(6, 7, 1), "Answered, wrote holdings 7, reply ", asked(6, 7, 1)),
         (asked(16, 4, 2, words(1, 2)), "Answered, wrote holdings 4 to 5, reply ", asked(16, 4, 2)),
         (asked(15, 9, 2, b"\3"), "Answered, wrote coils 9 to 10, reply ", asked(15, 9, 2)),
+        (masked(8, 1, 2), "Answered, wrote holdings 8, reply ", masked(8, 1, 2)),
+        (exchanged(0, 2, 4, words(1, 2)), "Answered, wrote holdings 4 to 5, reply ", b"\1\x17" + READ_REPLY[2:]),
+        (exchanged(0, 2, 6, words(3)), "Answered, wrote holdings 6, reply ", b"\1\x17" + READ_REPLY[2:]),
+        (exchanged(999, 2, 4, words(1, 2)), "Exception 2, reply ", b"\1\x97\2"),
+        (masked(8, 1, 2, unit=0), "BroadcastDone, wrote holdings 8", b""),
+        (exchanged(0, 2, 4, words(1, 2), unit=0), "BroadcastIgnored", b""),
         (asked(3, 999, 2), "Exception 2, reply ", b"\1\x83\2"),
         (asked(5, 1, 0, unit=0), "BroadcastDone, wrote coils 1", b""),
         (asked(3, 1, 1, unit=0), "BroadcastIgnored", b""), (asked(5, 1, 1, unit=0), "BroadcastIgnored 3", b""),
@@ -30,11 +36,13 @@ def test_log(program):
         wanted = [f"{tcp(body).hex().upper()} {text}{tcp(reply).hex().upper() if reply else ''}"
                   for body, text, reply in rows_of_log]
         same(server.log(), [name + entry for entry in ["came", *wanted, "gone"]], "the log")
-    line = ascii_line(asked(16, 4, 2, words(1, 2)))
+    rows_of_line = ((asked(16, 4, 2, words(1, 2)), "wrote holdings 4 to 5", asked(16, 4, 2)),
+                    (exchanged(3, 2, 7, words(1, 2, 3)), "wrote holdings 7 to 9", b"\1\x17\4" + words(0, 1)))
     with Line() as end, Server(program, "--ascii", end.path) as server:
-        exchange(end, ascii_line, asked(16, 4, 2, words(1, 2)), asked(16, 4, 2))
-        same(server.log(), [f"ascii {end.path}: {line.hex().upper()} Answered, wrote holdings 4 to 5, reply "
-                            + ascii_line(asked(16, 4, 2)).hex().upper()], "the log of a line")
+        for body, _, reply in rows_of_line:
+            exchange(end, ascii_line, body, reply)
+        same(server.log(), [f"ascii {end.path}: {ascii_line(body).hex().upper()} Answered, {wrote}, reply "
+                            + ascii_line(reply).hex().upper() for body, wrote, reply in rows_of_line], "the log of a line")
 
 
 def ask_often(client, times):

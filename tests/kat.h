@@ -53,7 +53,7 @@ void list_head(void);
 void collector_cases(void);
 void other_calls(void);
 
-/* The three calls of the asking side. */
+/* The five calls of the asking side. */
 void asking_cases(void);
 
 /* Header and check around a body; answers the length. Nothing around nothing. The transaction is 1234. */

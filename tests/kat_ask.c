@@ -83,9 +83,67 @@ static const struct {
     {"function 7 as a write", "rat", 7, 1, 7, 0, 0, "0001", 11, ""},
     {"function 14", "rat", 7, 1, 14, 0, 0, "0001", 11, ""},
     {"function 17", "rat", 7, 1, 17, 0, 0, "0001", 11, ""},
+    {"function 22 as a write", "rat", 7, 1, 22, 0, 0, "0001", 11, ""},
+    {"function 22 as a read", "rat", 7, 1, 22, 0, 1, NULL, 11, ""},
+    {"function 23 as a write", "rat", 7, 1, 23, 0, 0, "0001*2", 11, ""},
+    {"function 23 as a read", "rat", 7, 1, 23, 0, 2, NULL, 11, ""},
     {"transport 3", "3", 7, 1, 3, 0, 2, NULL, 11, ""},
     {"transport 3, a write", "3", 7, 1, 6, 0, 0, "0001", 11, ""},
     {"transport 255", "F", 7, 1, 3, 0, 2, NULL, 11, ""},
+};
+
+/* The same of the builders of functions 22 and 23: a mask's two values are A and B; of an exchange `count` cells from
+ * `reg` on are read, and the values written from `write_reg` on. */
+static const struct {
+    const char *name, *on;
+    uint16_t tr_id;
+    uint8_t unit;
+    enum asking_call call;
+    uint16_t reg, count, write_reg;
+    const char *values;
+    uint8_t kind;
+    const char *frame;
+} more_builds[] = {
+    /* as document 02's cases have them */
+    {"ask a mask", "T", 0x18, 1, MASK, 2, 0, 0, "00F2 0025", 0, "0018 0000 0008 01 16 0002 00F2 0025"},
+    {"ask a mask on RTU", "R", 7, 1, MASK, 2, 0, 0, "00F2 0025", 0, "01 16 0002 00F2 0025 EFEE"},
+    {"ask a mask on ASCII", "A", 7, 1, MASK, 2, 0, 0, "00F2 0025", 0, "':0116000200F20025D0\r\n"},
+    {"ask an exchange", "T", 0x19, 1, SET_GET, 0, 3, 1, "AAAA BBBB", 0,
+     "0019 0000 000F 01 17 0000 0003 0001 0002 04 AAAA BBBB"},
+    {"ask an exchange on RTU", "R", 7, 1, SET_GET, 0, 3, 1, "AAAA BBBB", 0,
+     "01 17 0000 0003 0001 0002 04 AAAA BBBB 6432"},
+    {"ask an exchange on ASCII", "A", 7, 1, SET_GET, 0, 3, 1, "AAAA BBBB", 0,
+     "':0117000000030001000204AAAABBBB14\r\n"},
+    /* both sides of every number */
+    {"mask of zeros", "rat", 0x1234, 0, MASK, 0, 0, 0, "0000 0000", 0, "00 16 0000 0000 0000"},
+    {"mask of ones, the last holding", "rat", 0x1234, 255, MASK, 65535, 0, 0, "FFFF FFFF", 0, "FF 16 FFFF FFFF FFFF"},
+    {"mask, high and low bytes", "rat", 0x1234, 17, MASK, 0x0102, 0, 0, "0304 0506", 0, "11 16 0102 0304 0506"},
+    {"exchange, high and low bytes", "rat", 0x1234, 17, SET_GET, 0x0102, 0x7B, 0x0304, "0506 0708", 0,
+     "11 17 0102 007B 0304 0002 04 0506 0708"},
+    {"exchange, read 0", "rat", 7, 1, SET_GET, 0, 0, 0, "0001", 11, ""},
+    {"exchange, read 1 and write 1", "rat", 0x1234, 1, SET_GET, 0, 1, 0, "0001", 0, "01 17 0000 0001 0000 0001 02 0001"},
+    {"exchange, read 125", "rat", 0x1234, 1, SET_GET, 0, 125, 0, "0001", 0, "01 17 0000 007D 0000 0001 02 0001"},
+    {"exchange, read 126", "rat", 7, 1, SET_GET, 0, 126, 0, "0001", 11, ""},
+    {"exchange, read 257", "rat", 7, 1, SET_GET, 0, 257, 0, "0001", 11, ""},
+    {"exchange, read 65535", "rat", 7, 1, SET_GET, 0, 65535, 0, "0001", 11, ""},
+    {"exchange, write 0", "rat", 7, 1, SET_GET, 0, 1, 0, "", 11, ""},
+    {"exchange, write 121", "rat", 0x1234, 1, SET_GET, 0, 125, 9, "ABAB*121", 0,
+     "01 17 0000 007D 0009 0079 F2 AB*242"},
+    {"exchange, write 122", "rat", 7, 1, SET_GET, 0, 1, 0, "ABAB*122", 11, ""},
+    {"exchange, write 129", "rat", 7, 1, SET_GET, 0, 1, 0, "ABAB*129", 11, ""},
+    {"exchange, the last holdings", "rat", 0x1234, 1, SET_GET, 65534, 2, 65535, "0001", 0,
+     "01 17 FFFE 0002 FFFF 0001 02 0001"},
+    {"exchange, the last written", "rat", 0x1234, 1, SET_GET, 65535, 1, 65534, "0001*2", 0,
+     "01 17 FFFF 0001 FFFE 0002 04 0001 0001"},
+    {"exchange, read one after the last", "rat", 7, 1, SET_GET, 65535, 2, 0, "0001", 11, ""},
+    {"exchange, write one after the last", "rat", 7, 1, SET_GET, 0, 1, 65535, "0001*2", 11, ""},
+    {"exchange, the last 125 and 121", "rat", 0x1234, 1, SET_GET, 65411, 125, 65415, "ABAB*121", 0,
+     "01 17 FF83 007D FF87 0079 F2 AB*242"},
+    {"exchange, 125 and one after the last", "rat", 7, 1, SET_GET, 65412, 125, 0, "0001", 11, ""},
+    {"exchange, 121 and one after the last", "rat", 7, 1, SET_GET, 0, 1, 65416, "0001*121", 11, ""},
+    {"mask, transport 3", "3", 7, 1, MASK, 0, 0, 0, "0000 0000", 11, ""},
+    {"mask, transport 255", "F", 7, 1, MASK, 0, 0, 0, "0000 0000", 11, ""},
+    {"exchange, transport 3", "3", 7, 1, SET_GET, 0, 1, 0, "0001", 11, ""},
 };
 
 /* room: for how many values; -1: just enough. */
@@ -157,6 +215,40 @@ static const struct {
     {"the longest write", "rat", "01 10 0000 007B F6 AB*246", "01 10 0000 007B", -1, 0, 0, ""},
     {"the longest write of coils", "rat", "01 0F 0000 07B0 F6 FF*246", "01 0F 0000 07B0", -1, 0, 0, ""},
     {"a broadcast is judged alike", "rat", "00 06 0002 1234", "00 06 0002 1234", -1, 0, 0, ""},
+    /* a mask's echo is all of its 8 bytes, an exchange's reply the values read */
+    {"mask", "T", "0018 0000 0008 01 16 0002 00F2 0025", "0018 0000 0008 01 16 0002 00F2 0025", -1, 0, 0, ""},
+    {"mask's echo", "rat", "01 16 0002 00F2 0025", "01 16 0002 00F2 0025", 3, 0, 0, ""},
+    {"mask's echo, another cell", "rat", "01 16 0002 00F2 0025", "01 16 0003 00F2 0025", 3, 12, 0, ""},
+    {"mask's echo, another A", "rat", "01 16 0002 00F2 0025", "01 16 0002 00F3 0025", 3, 12, 0, ""},
+    {"mask's echo, another B", "rat", "01 16 0002 00F2 0025", "01 16 0002 00F2 0125", 3, 12, 0, ""},
+    {"mask's echo, last byte", "rat", "01 16 0002 00F2 0025", "01 16 0002 00F2 0024", 3, 12, 0, ""},
+    {"mask's echo, six bytes", "rat", "01 16 0002 00F2 0025", "01 16 0002 00F2", 3, 12, 0, ""},
+    {"mask's echo, and a byte", "rat", "01 16 0002 00F2 0025", "01 16 0002 00F2 0025 00", 3, 12, 0, ""},
+    {"mask's echo, another function", "rat", "01 16 0002 00F2 0025", "01 06 0002 00F2 0025", 3, 12, 0, ""},
+    {"mask's echo, another unit", "rat", "01 16 0002 00F2 0025", "02 16 0002 00F2 0025", 3, 12, 0, ""},
+    {"mask, exception 2", "rat", "01 16 0002 00F2 0025", "01 96 02", -1, 2, 2, ""},
+    {"mask, an exception of 6", "rat", "01 16 0002 00F2 0025", "01 86 02", 3, 12, 0, ""},
+    {"exchange", "T", "0019 0000 000F 01 17 0000 0003 0001 0002 04 AAAA BBBB", "0019 0000 0009 01 17 06 0102 AAAA BBBB",
+     -1, 0, 0, "0102 AAAA BBBB"},
+    {"exchange on all", "rat", "01 17 0000 0003 0001 0002 04 AAAA BBBB", "01 17 06 0102 AAAA BBBB", 5, 0, 0,
+     "0102 AAAA BBBB"},
+    {"exchange, other values than written", "rat", "01 17 0001 0001 0001 0001 02 AAAA", "01 17 02 1234", -1, 0, 0,
+     "1234"},
+    {"exchange, 125 and 121", "rat", "01 17 0000 007D 0009 0079 F2 AB*242", "01 17 FA A5*250", -1, 0, 0, "A5A5*125"},
+    {"exchange, room 2", "rat", "01 17 0000 0003 0001 0002 04 AAAA BBBB", "01 17 06 0102 AAAA BBBB", 2, 9, 0, ""},
+    {"exchange, no room and an exception", "rat", "01 17 0000 0003 0001 0002 04 AAAA BBBB", "01 97 02", 2, 9, 0, ""},
+    {"exchange, exception 3", "rat", "01 17 0000 0003 0001 0002 04 AAAA BBBB", "01 97 03", 3, 2, 3, ""},
+    {"exchange, byte count of the write", "rat", "01 17 0000 0003 0001 0002 04 AAAA BBBB", "01 17 04 AAAA BBBB", 3, 12,
+     0, ""},
+    {"exchange, byte count 6 and 5 bytes", "rat", "01 17 0000 0003 0001 0002 04 AAAA BBBB", "01 17 06 0102 AAAA BB", 3,
+     12, 0, ""},
+    {"exchange, byte count 6 and 7 bytes", "rat", "01 17 0000 0003 0001 0002 04 AAAA BBBB",
+     "01 17 06 0102 AAAA BBBB 00", 3, 12, 0, ""},
+    {"exchange, function 3", "rat", "01 17 0000 0003 0001 0002 04 AAAA BBBB", "01 03 06 0102 AAAA BBBB", 3, 12, 0, ""},
+    {"exchange, its request again", "rat", "01 17 0000 0003 0001 0002 04 AAAA BBBB",
+     "01 17 0000 0003 0001 0002 04 AAAA BBBB", 3, 12, 0, ""},
+    {"exchange, another transaction", "T", "0019 0000 000F 01 17 0000 0003 0001 0002 04 AAAA BBBB",
+     "0018 0000 0009 01 17 06 0102 AAAA BBBB", 3, 12, 0, ""},
     /* frames that are none */
     {"no reply", "rat", "01 03 0000 0002", "", 2, 5, 0, ""},
     {"RTU, 3 bytes", "R", "01 03 0000 0002 C40B", "01 03 04", 2, 5, 0, ""},
@@ -178,6 +270,17 @@ static const struct {
     {"sent one byte more", "rat", "01 03 0000 0002 00", "01 03 04 0102 0304", 2, 11, 0, ""},
     {"sent a coil's value 0001", "rat", "01 05 0009 0001", "01 05 0009 0001", 2, 11, 0, ""},
     {"sent a byte count of 3", "rat", "01 10 0000 0002 03 000100", "01 90 03", 2, 11, 0, ""},
+    {"sent 7 bytes of 22", "rat", "01 16 0002 00F2 00", "01 96 02", 2, 11, 0, ""},
+    {"sent 9 bytes of 22", "rat", "01 16 0002 00F2 0025 00", "01 96 02", 2, 11, 0, ""},
+    {"sent 10 bytes of 23", "rat", "01 17 0000 0003 0001 0002", "01 97 02", 3, 11, 0, ""},
+    {"sent 23 a byte short", "rat", "01 17 0000 0003 0001 0002 04 AAAA BB", "01 97 02", 3, 11, 0, ""},
+    {"sent 23, read 0", "rat", "01 17 0000 0000 0001 0002 04 AAAA BBBB", "01 97 03", 3, 11, 0, ""},
+    {"sent 23, read 126", "rat", "01 17 0000 007E 0001 0002 04 AAAA BBBB", "01 97 03", 0, 11, 0, ""},
+    {"sent 23, write 0", "rat", "01 17 0000 0003 0001 0000 00", "01 97 03", 3, 11, 0, ""},
+    {"sent 23, write 122", "rat", "01 17 0000 0003 0001 007A F2 AB*242", "01 97 03", 3, 11, 0, ""},
+    {"sent 23, a wrong byte count", "rat", "01 17 0000 0003 0001 0001 04 AAAA BBBB", "01 97 03", 3, 11, 0, ""},
+    {"sent 23, read beyond 65,535", "rat", "01 17 FFFF 0002 0001 0001 02 AAAA", "01 97 02", 3, 11, 0, ""},
+    {"sent 23, write beyond 65,535", "rat", "01 17 0000 0003 FFFF 0002 04 AAAA BBBB", "01 97 02", 3, 11, 0, ""},
     {"sent with a wrong CRC", "R", "01 03 0000 0002 C40C", "01 03 04 0102 0304 5B3C", 2, 11, 0, ""},
     {"sent with a wrong LRC", "A", "':010300000002FB\r\n", "':01030401020304EE\r\n", 2, 11, 0, ""},
     {"sent with another protocol", "T", "0007 0001 0006 01 03 0000 0002", "0007 0000 0007 01 03 04 0102 0304", 2, 11, 0,
@@ -243,13 +346,12 @@ static void beside(const char *name, uint8_t *room, size_t len) {
     if (!margin_untouched(place(room, len, checks), len, checks)) different(name, "a byte beside a buffer");
 }
 
+static uint16_t given[MOST]; /* the values of the row */
+
 /* One call into so much room, which must answer `kind` and leave `frame` in front and all else as lent. */
-static void build(size_t i, uint8_t proto, size_t room, uint8_t kind, const uint8_t *frame, size_t len) {
-    static uint16_t given[MOST];
-    const char *name = builds[i].name;
-    struct asking a = {.call = builds[i].values == NULL ? GET : SET, .to = {builds[i].tr_id, builds[i].unit, proto},
-        .func = builds[i].func, .reg = builds[i].reg, .count = builds[i].count};
-    a.values_len = a.call == GET ? 0 : words_of(builds[i].values, given);
+static void build(const struct asking *asked, size_t room, uint8_t kind, const uint8_t *frame, size_t len) {
+    const char *name = now;
+    struct asking a = *asked;
     a.values = lend_values(a.values_len);
     if (a.values_len > 0) memcpy(a.values, given, 2 * a.values_len);
     a.request = lend_bytes(request_room, NULL, room);
@@ -267,19 +369,36 @@ static void build(size_t i, uint8_t proto, size_t room, uint8_t kind, const uint
 }
 
 /* What is built is built into just enough room and into more, and refused with a byte less and with none. */
-static void build_row(size_t i, char on) {
+static void build_as(const struct asking *a, uint8_t kind, const char *text, char on) {
     static uint8_t frame[1024];
-    size_t len = frame_of(builds[i].frame, on, frame);
-    uint8_t proto = transport_of(on);
-    if (builds[i].kind != 0) {
-        build(i, proto, 600, builds[i].kind, frame, 0);
-        build(i, proto, 0, builds[i].kind, frame, 0);
+    size_t len = frame_of(text, on, frame);
+    if (kind != 0) {
+        build(a, 600, kind, frame, 0);
+        build(a, 0, kind, frame, 0);
         return;
     }
-    build(i, proto, len, 0, frame, len);
-    build(i, proto, len + 9, 0, frame, len);
-    build(i, proto, len - 1, DALONJANG_KIND_NO_ROOM, frame, 0);
-    build(i, proto, 0, DALONJANG_KIND_NO_ROOM, frame, 0);
+    build(a, len, 0, frame, len);
+    build(a, len + 9, 0, frame, len);
+    build(a, len - 1, DALONJANG_KIND_NO_ROOM, frame, 0);
+    build(a, 0, DALONJANG_KIND_NO_ROOM, frame, 0);
+}
+
+static void build_row(size_t i, char on) {
+    struct asking a = {.call = builds[i].values == NULL ? GET : SET,
+        .to = {builds[i].tr_id, builds[i].unit, transport_of(on)},
+        .func = builds[i].func, .reg = builds[i].reg, .count = builds[i].count};
+    a.values_len = a.call == GET ? 0 : words_of(builds[i].values, given);
+    build_as(&a, builds[i].kind, builds[i].frame, on);
+}
+
+static void build_more(size_t i, char on) {
+    struct asking a = {.call = more_builds[i].call,
+        .to = {more_builds[i].tr_id, more_builds[i].unit, transport_of(on)},
+        .reg = more_builds[i].reg, .count = more_builds[i].count, .write_reg = more_builds[i].write_reg};
+    size_t n = words_of(more_builds[i].values, given);
+    if (a.call == MASK) a.and_mask = given[0], a.or_mask = given[1];
+    else a.values_len = n;
+    build_as(&a, more_builds[i].kind, more_builds[i].frame, on);
 }
 
 static void read_row(size_t i, char on) {
@@ -314,6 +433,8 @@ void asking_cases(void) {
     watch_fences(touched);
     for (size_t i = 0; i < CASES(builds); i++)
         for (const char *on = builds[i].on; *on != 0; on++) now = builds[i].name, build_row(i, *on);
+    for (size_t i = 0; i < CASES(more_builds); i++)
+        for (const char *on = more_builds[i].on; *on != 0; on++) now = more_builds[i].name, build_more(i, *on);
     for (size_t i = 0; i < CASES(reads); i++)
         for (const char *on = reads[i].on; *on != 0; on++) now = reads[i].name, read_row(i, *on);
 }

@@ -1,5 +1,5 @@
-/* Document 01's driver, written from the page and from nothing else: one bit or byte at a time, no cleverness. The fuzz
- * compares the proved library with it. */
+/* Document 01's driver, with document 02's functions 22 and 23, written from the pages and from nothing else: one bit or
+ * byte at a time, no cleverness. The fuzz compares the proved library with it. */
 #include "asked.h"
 #include <string.h>
 
@@ -78,8 +78,17 @@ static void set_bit(uint8_t *table, size_t cell, int value) {
 }
 
 static int table_of(uint8_t f) { /* -1: the function is not served */
-    return f == 1 || f == 5 || f == 15 ? COILS : f == 3 || f == 6 || f == 16 ? HOLDINGS : f == 2 ? DISCRETES
-           : f == 4 ? INPUTS : -1;
+    return f == 1 || f == 5 || f == 15 ? COILS : f == 3 || f == 6 || f == 16 || f == 22 || f == 23 ? HOLDINGS
+           : f == 2 ? DISCRETES : f == 4 ? INPUTS : -1;
+}
+
+int model_length_right(const uint8_t *b, size_t n) {
+    switch (b[1]) {
+    case 15: case 16: return n >= 7 && n == 7u + b[6];
+    case 22: return n == 8;
+    case 23: return n >= 11 && n == 11u + b[10];
+    default: return n == 6;
+    }
 }
 
 int model_value_right(const uint8_t *b) {
@@ -90,8 +99,21 @@ int model_value_right(const uint8_t *b) {
     case 5: return count == 0xFF00 || count == 0;
     case 15: return count >= 1 && count <= 1968 && b[6] == (count + 7) / 8;
     case 16: return count >= 1 && count <= 123 && b[6] == 2 * count;
+    case 23: return count >= 1 && count <= 125 && word(b + 8) >= 1 && word(b + 8) <= 121 && b[10] == 2 * word(b + 8);
     default: return 1;
     }
+}
+
+int model_inside(const uint8_t *b, size_t cells) {
+    int one = b[1] == 5 || b[1] == 6 || b[1] == 22;
+    if (b[1] == 23 && word(b + 6) + word(b + 8) > cells) return 0;
+    return word(b + 2) + (one ? 1 : word(b + 4)) <= cells;
+}
+
+/* A bit stays where A has a one; elsewhere it becomes B's. */
+static void mask(uint8_t *cell, const uint8_t *a, const uint8_t *b) {
+    for (size_t i = 0; i < 16; i++)
+        if (!bit(a, i)) set_bit(cell, i, bit(b, i));
 }
 
 /* Serves a right request and writes the reply's bytes from the unit on; answers how many. */
@@ -99,7 +121,7 @@ static size_t serve(const struct asked *a, int tab, const uint8_t *b, uint8_t *r
     uint8_t *table = a->table[tab].bytes;
     size_t start = word(b + 2), count = word(b + 4), bytes = b[1] <= 2 ? (count + 7) / 8 : 2 * count;
     memcpy(r, b, 6);
-    if (b[1] <= 4) r[2] = (uint8_t)bytes;
+    if (b[1] <= 4 || b[1] == 23) r[2] = (uint8_t)bytes;
     switch (b[1]) {
     case 1: case 2:
         memset(r + 3, 0, bytes); /* pad bits zero */
@@ -111,6 +133,14 @@ static size_t serve(const struct asked *a, int tab, const uint8_t *b, uint8_t *r
     case 15:
         for (size_t i = 0; i < count; i++) set_bit(table, start + i, bit(b + 7, i));
         return 6;
+    case 22:
+        mask(table + 2 * start, b + 4, b + 6);
+        memcpy(r, b, 8);
+        return 8;
+    case 23: /* the write first */
+        memcpy(table + 2 * word(b + 6), b + 11, b[10]);
+        memcpy(r + 3, table + 2 * start, bytes);
+        return 3 + bytes;
     default: memcpy(table + 2 * start, b + 7, bytes); return 6;
     }
 }
@@ -136,10 +166,10 @@ result model_drive(const struct asked *a) {
     if (b[1] >= 128) return (result){0, 8, 0};
     int code = 0, tab = table_of(b[1]);
     if (tab < 0) code = 1;
-    else if (broadcast && b[1] <= 4) return (result){0, 3, 0};
-    else if (b[1] <= 6 ? n != 6 : n < 7 || n != 7u + b[6]) return (result){0, 7, 0};
+    else if (broadcast && (b[1] <= 4 || b[1] == 23)) return (result){0, 3, 0};
+    else if (!model_length_right(b, n)) return (result){0, 7, 0};
     else if (!model_value_right(b)) code = 3;
-    else if (word(b + 2) + (b[1] == 5 || b[1] == 6 ? 1 : word(b + 4)) > a->cells[tab]) code = 2;
+    else if (!model_inside(b, a->cells[tab])) code = 2;
     if (code && broadcast) return (result){0, 3, (uint8_t)code};
     if (code) return (result){wrap(a, (uint8_t[]){b[0], (uint8_t)(b[1] + 128), (uint8_t)code}, 3), 2, (uint8_t)code};
     n = serve(a, tab, b, r);

@@ -293,12 +293,15 @@ def test_readme_cost(root):
         if len(cells) != 8 or cells[0] not in few:
             continue
         ours, peers = int(cells[2]), [int(figure) for figure in cells[3:7] if figure.isdigit()]
-        what, count = re.match(r"(?:[a-z ]+: )?(?:(read|write) )?(?:a count of )?(\d+)", cells[1]).groups()
+        one = cells[1] == "mask write"  # of one cell, which its name does not say
+        what, count = (None, 1) if one else re.match(
+            r"(?:[a-z ]+: )?(?:(read|write|read/write) )?(?:a count of )?(\d+)", cells[1]).groups()
         part = (cells[0], cells[1], 100 * ours / min(peers) if peers else 0)
         least = 1000 if "coils" in cells[1] and what == "write" else 100
-        if ":" not in cells[1] and int(count) > least and not (cells[0] == "RTU" and re.match(r"write \d+ reg", cells[1])):
+        words_on_rtu = cells[0] == "RTU" and re.match(r"(read/)?write \d+.*reg", cells[1])
+        if ":" not in cells[1] and int(count) > least and not words_on_rtu:
             long.append(part)
-        if re.match(r"(read|write) [12] ", cells[1]):
+        if one or re.match(r"(read|write) [12] ", cells[1]):
             few[cells[0]].append(math.ceil(part[2]))
         if cells[1].startswith("foreign") and cells[0] != "ASCII":
             foreign.append(part)

@@ -6,7 +6,8 @@
 #include <stdlib.h>
 #include <string.h>
 
-enum { LAST = 19999, LAST_HOLDING = 4711, MOST_BITS = 1968, MOST_WORDS = 123 }; /* as in tests/peer_plan.py */
+/* as in tests/peer_plan.py */
+enum { LAST = 19999, LAST_HOLDING = 4711, MOST_BITS = 1968, MOST_WORDS = 123, MOST_READ = 125, MOST_EXCHANGED = 121 };
 
 static modbus_t *line;
 
@@ -49,6 +50,26 @@ static void largest_writes(int base, int most_bits, int most_words) {
     MUST(memcmp(words, words_back, (size_t)most_words * 2) == 0);
 }
 
+/* Functions 22 and 23: a mask, an exchange whose read begins before its write and ends in it, and the largest. */
+static void masks_and_exchanges(int base) {
+    uint16_t words[MOST_EXCHANGED], back[MOST_READ];
+    MUST(modbus_write_register(line, base + 300, 0x12) == 1);
+    MUST(modbus_mask_write_register(line, base + 300, 0xF2, 0x25) == 1);
+    MUST(modbus_write_and_read_registers(line, base + 301, 2, (uint16_t[]){7, 8}, base + 300, 2, back) == 2);
+    MUST(back[0] == 0x17 && back[1] == 7);
+    MUST(modbus_read_registers(line, base + 300, 4, back) == 4 && back[1] == 7 && back[2] == 8 && back[3] == 0);
+    for (int i = 0; i < MOST_EXCHANGED; i++) words[i] = (uint16_t)(i * 263);
+    MUST(modbus_write_and_read_registers(line, base + 303, MOST_EXCHANGED, words, base + 299, MOST_READ, back)
+         == MOST_READ);
+    MUST(back[0] == 0 && back[1] == 0x17 && back[2] == 7 && back[3] == 8);
+    MUST(memcmp(back + 4, words, sizeof words) == 0);
+    MUST(modbus_mask_write_register(line, LAST + 1, 0, 1) == -1 && errno == EMBXILADD);
+    MUST(modbus_write_and_read_registers(line, base + 300, 1, words, LAST, 2, back) == -1 && errno == EMBXILADD);
+    MUST(modbus_write_and_read_registers(line, LAST, 2, words, base + 300, 1, back) == -1 && errno == EMBXILADD);
+    MUST(modbus_read_registers(line, base + 300, 1, back) == 1 && back[0] == 0x17);
+    MUST(modbus_read_registers(line, LAST, 1, back) == 1 && back[0] == LAST_HOLDING);
+}
+
 /* libmodbus keeps to the limits itself, so what breaks them is sent raw; the reply ends with function and code. */
 static void refused_raw(uint8_t *request, int len, int code, int tail) {
     uint8_t reply[MODBUS_TCP_MAX_ADU_LENGTH];
@@ -67,6 +88,7 @@ static void exceptions(int tail) {
     refused_raw((uint8_t[]){1, 43, 14, 1, 0}, 5, 1, tail);
     refused_raw((uint8_t[]){1, 3, 0, 0, 0, 126}, 6, 3, tail);
     refused_raw((uint8_t[]){1, 5, 0, 0, 0, 1}, 6, 3, tail);
+    refused_raw((uint8_t[]){1, 23, 0, 0, 0, 126, 0, 0, 0, 1, 2, 0, 9}, 13, 3, tail);
 }
 
 /* Writes that are not answered: another unit's is not done, a broadcast is. */
@@ -89,10 +111,11 @@ int main(int argc, char **argv) {
     reads(base);
     small_writes(base);
     largest_writes(base, MOST_BITS, MOST_WORDS);
+    masks_and_exchanges(base);
     exceptions(tcp ? 0 : 2);
     units(base);
-    printf("1 2 3 4 5 6 15 16; 2000 coils and 125 registers read, %d and %d written; exceptions 1 2 3; another unit; "
-           "broadcast\n", MOST_BITS, MOST_WORDS);
+    printf("1 2 3 4 5 6 15 16 22 23; 2000 coils and 125 registers read, %d and %d written, %d and %d exchanged; "
+           "exceptions 1 2 3; another unit; broadcast\n", MOST_BITS, MOST_WORDS, MOST_READ, MOST_EXCHANGED);
     modbus_close(line);
     modbus_free(line);
     return 0;

@@ -9,8 +9,9 @@ DISCRETES = [1, 0, 1, 1]
 INPUTS = [17, 4660]
 LAST_HOLDING = 4711
 COILS_SET = [1, 0, 1]
-# coils and registers in one frame, by document 01's bounds
+# coils and registers in one frame, by document 01's bounds; registers read and written in an exchange, by document 02's
 MOST_WRITTEN = (1968, 123)
+MOST_EXCHANGED = (125, 121)
 
 IMAGE = f"""dalonjang tables
 discretes 0 {' '.join(map(str, DISCRETES))}

@@ -9,7 +9,7 @@ import pymodbus
 from pymodbus.client import ModbusSerialClient, ModbusTcpClient
 from pymodbus.exceptions import ModbusException
 
-from peer_plan import COILS_SET, DISCRETES, INPUTS, LAST, LAST_HOLDING, MOST_WRITTEN, told
+from peer_plan import COILS_SET, DISCRETES, INPUTS, LAST, LAST_HOLDING, MOST_EXCHANGED, MOST_WRITTEN, told
 from serving import check, same
 
 try:
@@ -44,15 +44,18 @@ class Peer:
     def __init__(self, transport, where):
         self.how = transport, where
         self.client = connected(transport, where, 10)
-        names = inspect.signature(self.client.read_coils).parameters
-        self.unit = next(name for name in ("device_id", "slave", "unit") if name in names)
+
+    def names(self, name):
+        return inspect.signature(getattr(self.client, name)).parameters
 
     def call(self, name, *arguments, unit=1, **named):
-        return getattr(self.client, name)(*arguments, **named, **{self.unit: unit})
+        """A call that names no unit hands its words on to the request, which calls it 'unit' (so in 3.0)."""
+        word = next((word for word in ("device_id", "slave") if word in self.names(name)), "unit")
+        return getattr(self.client, name)(*arguments, **named, **{word: unit})
 
     def done(self, name, *arguments, **named):
         answer = self.call(name, *arguments, **named)
-        check(not answer.isError(), f"{name} {arguments[0]}: {answer}")
+        check(not answer.isError(), f"{name} {arguments[:1] or named}: {answer}")
         return answer
 
     def bits(self, name, start, count):
@@ -60,6 +63,11 @@ class Peer:
 
     def registers(self, name, start, count):
         return self.done(name, start, count=count).registers
+
+    def exchange(self, start, count, first, values):
+        """The words of function 23."""
+        given = "values" if "values" in self.names("readwrite_registers") else "write_registers"
+        return {"read_address": start, "read_count": count, "write_address": first, given: values}
 
     def refused(self, code, name, *arguments, **named):
         """Answers whether it could be sent at all: newer pymodbus keeps to the limits itself."""
@@ -113,10 +121,28 @@ def functions(peer, base, most_coils, most_registers):
     same(peer.registers("read_holding_registers", base, 125), values + (125 - most_registers) * [0], "125 registers")
 
 
+def masks_and_exchanges(peer, base):
+    """Functions 22 and 23: a mask, an exchange whose read begins before its write and ends in it, and the largest."""
+    peer.done("write_register", base + 300, 0x12)
+    peer.done("mask_write_register", address=base + 300, and_mask=0xF2, or_mask=0x25)
+    read = peer.done("readwrite_registers", **peer.exchange(base + 300, 2, base + 301, [7, 8])).registers
+    same(read, [0x17, 7], "the mask and the exchange")
+    same(peer.registers("read_holding_registers", base + 300, 4), [0x17, 7, 8, 0], "registers after the exchange")
+    most, values = MOST_EXCHANGED[0], [n * 263 for n in range(MOST_EXCHANGED[1])]
+    read = peer.done("readwrite_registers", **peer.exchange(base + 299, most, base + 303, values)).registers
+    same(read, [0, 0x17, 7, 8] + values, "the largest exchange")
+    check(peer.refused(2, "mask_write_register", address=LAST + 1, and_mask=0, or_mask=1), "pymodbus does not mask")
+    for outside in ((LAST, 2, base + 300, [9]), (base + 300, 1, LAST, [9, 9])):
+        check(peer.refused(2, "readwrite_registers", **peer.exchange(*outside)), "pymodbus does not exchange")
+    same(peer.registers("read_holding_registers", base + 300, 1), [0x17], "a register after an exchange that is refused")
+    same(peer.registers("read_holding_registers", LAST, 1), [LAST_HOLDING], "the last holding after it")
+
+
 def main(transport, where, base):
     peer = Peer(transport, where)
     most = MOST_WRITTEN
     functions(peer, base, *most)
+    masks_and_exchanges(peer, base)
     peer.unserved()
     check(peer.refused(2, "read_holding_registers", LAST, count=2), "pymodbus does not ask for two cells")
     check(peer.refused(2, "write_coil", LAST + 1, True), "pymodbus does not write a coil")
@@ -124,8 +150,8 @@ def main(transport, where, base):
     peer.unanswered("write_register", base + 200, 7, unit=2)
     peer.unanswered("write_register", base + 201, 77, unit=0)
     same(peer.registers("read_holding_registers", base + 200, 2), [0, 77], "after another unit's write and a broadcast")
-    return f"1 2 3 4 5 6 15 16; 2000 coils and 125 registers read, {most[0]} and {most[1]} written; " \
-           f"exceptions {codes}; another unit; broadcast"
+    return f"1 2 3 4 5 6 15 16 22 23; 2000 coils and 125 registers read, {most[0]} and {most[1]} written, " \
+           f"{MOST_EXCHANGED[0]} and {MOST_EXCHANGED[1]} exchanged; exceptions {codes}; another unit; broadcast"
 
 
 if __name__ == "__main__":

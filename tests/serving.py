@@ -68,6 +68,16 @@ def asked(function, start, count, data=None, unit=1):
     return body if data is None else body + bytes([len(data)]) + data
 
 
+def masked(holding, kept, others, unit=1):
+    """A mask write, function 22, and its reply."""
+    return struct.pack(">BBHHH", unit, 22, holding, kept, others)
+
+
+def exchanged(start, count, first, data, unit=1):
+    """Function 23, which writes the data from `first` on and reads from `start` on."""
+    return asked(23, start, count, unit=unit) + struct.pack(">HHB", first, len(data) // 2, len(data)) + data
+
+
 def words(*values):
     return struct.pack(f">{len(values)}H", *values)
 

@@ -37,13 +37,14 @@ static void try_one(const struct row *row) {
     exit(1);
 }
 
-/* A read is of cells that have been written, in two requests where one does not hold them. */
+/* A read is of cells that have been written, in two requests where one does not hold them; of function 23, those that it
+ * does not write itself. */
 static void measure(struct row *row) {
-    int bits = row->function == 1;
+    int bits = row->function == 1, both = row->function == 23;
     size_t most = bits ? 1000 : 100;
     unit.setup.transport = (uint8_t)row->kind;
-    if (row->function < 5 && row->start + row->count <= row->cells)
-        for (size_t done = 0; done < row->count; done += most) {
+    if ((row->function < 5 || both) && row->start + row->count <= row->cells)
+        for (size_t done = both ? row->count - KEPT : 0; done < row->count; done += most) {
             struct row part = *row;
             part.function = bits ? 15 : 16;
             part.start += done;

@@ -8,7 +8,7 @@ use lib.ListN.{length}
 use Rattle.modbus.specs.Step.{Step, stop, go}
 use Rattle.modbus.specs.Bytes.{Bytes}
 use Rattle.modbus.specs.Table.{Kind, bit, word, Tab, coils, discretes, holdings, inputs, kindOf}
-use Rattle.modbus.specs.Request.{reads, many, code, Ask, read, write, writes, mostRead, mostWritten, Permitted, octets, Pads, pdu}
+use Rattle.modbus.specs.Request.{reads, many, code, Ask, read, write, writes, masks, swaps, mostRead, mostWritten, Permitted, octets, Pads, pdu}
 use Rattle.modbus.specs.Paper.{protoOf}
 use Rattle.modbus.specs.Setup.{Setup, proto}
 use Rattle.modbus.specs.Frame.{Framed, least, most}
@@ -71,16 +71,25 @@ pdu-bytes n (writes k s vs) pad p i q =
         ),
       ),
     )
+pdu-bytes n (masks a x y) pad p i q =
+    (omega arith, (omega (arith, i .0), (omega arith, (omega (arith, p .0), (omega arith, (omega (arith, p .1), (omega arith, tt)))))))
+pdu-bytes n (swaps r c s vs) pad p i q =
+    let (one, most, some, few, fits) = p in
+    (omega arith, (omega (arith, i .0), (omega arith, (omega arith, (omega arith, (omega (arith, i .1 .0), (omega arith, (omega arith, (omega arith, (omega arith, bytes-cargo word vs [] fits refl))))))))))
 
 pdu-long : (a : Ask) (pad : List ℕ) → Pads a pad → 5 ≤ length (pdu a pad)
 pdu-long (read t s c) pad q = omega arith
 pdu-long (write k a v) pad q = omega arith
 pdu-long (writes k s vs) pad q = omega arith
+pdu-long (masks a x y) pad q = omega arith
+pdu-long (swaps r c s vs) pad q = omega arith
 
 pdu-short : (a : Ask) (pad : List ℕ) → Permitted a → Pads a pad → length (pdu a pad) ≤ 252
 pdu-short (read t s c) pad p q = omega arith
 pdu-short (write k a v) pad p q = omega arith
 pdu-short (writes k s vs) pad p q = omega (arith, most-octets k (length vs) (p .1), length-cargo k vs pad q)
+pdu-short (masks a x y) pad p q = omega arith
+pdu-short (swaps r c s vs) pad p q = omega (arith, p .3, length-cargo word vs [] refl)
 
 pub least-three : (p : ModbusProto) → least p ≤ 3
 least-three Rtu = omega arith

@@ -2,7 +2,7 @@
 -- driver answered to a frame is read back as the cells that it left.
 -- Assumes nothing.
 use mathlib.Core.Path.{_≡_, refl, sym, ap, _∙_, subst}
-use mathlib.Core.List.{List}
+use mathlib.Core.List.{List, [], _∷_}
 use Prim.Native.Nat.{ℕ, _+_, _≤_, _<_}
 use native.Mathlib.Omega.{arith}
 use lib.ListN.{length, take, getD}
@@ -13,8 +13,8 @@ use borrow.Fn.Kinds.{Dens, resT, endedOf}
 use denote.Triple.Clauses.{Lasts, atExit}
 use Rattle.modbus.specs.Step.{Step, stop, go}
 use Rattle.modbus.specs.Bytes.{Bytes}
-use Rattle.modbus.specs.Table.{Tab}
-use Rattle.modbus.specs.Request.{Ask, read, seen, found}
+use Rattle.modbus.specs.Table.{Range}
+use Rattle.modbus.specs.Request.{Ask, masks, swaps, reading, seen, found}
 use Rattle.modbus.specs.Decode.{Silent, readIgnored, foreign, frameBroken, frameCheck, wrongLength, badFunction, noRoom, badSetup}
 use Rattle.modbus.specs.declared.Answer.{Answer}
 use Rattle.tables.specs.Lent.{tablesOf}
@@ -31,11 +31,15 @@ use Rattle.client.proofs.ModbusRequest.generate_get.Kinds as get-kinds
 use Rattle.client.proofs.ModbusRequest.generate_get.Reads as get-reads
 use Rattle.client.proofs.ModbusRequest.generate_set.Kinds as set-kinds
 use Rattle.client.proofs.ModbusRequest.generate_set.Reads as set-reads
+use Rattle.client.proofs.ModbusRequest.generate_mask.Kinds as mask-kinds
+use Rattle.client.proofs.ModbusRequest.generate_mask.Reads as mask-reads
+use Rattle.client.proofs.ModbusRequest.generate_set_get.Kinds as set-get-kinds
+use Rattle.client.proofs.ModbusRequest.generate_set_get.Reads as set-get-reads
 use Rattle.client.proofs.parse_response.Kinds as parse-kinds
 use Rattle.client.proofs.parse_response.Reads as parse-reads
 use Rattle.asking.specs.Belonging.{Says}
 use Rattle.asking.proofs.Built.{Built, built}
-use Rattle.asking.proofs.OnBytes.{came, values-back, exception-back, value-cell}
+use Rattle.asking.proofs.OnBytes.{came, values-back, exception-back, found-range, value-cell}
 
 -- ---- building
 
@@ -79,6 +83,18 @@ module _ (κs : Lfts 2) (a : Dens κs set-kinds.ps) (x : resT set-kinds.r κs .D
       → Built (a .0) (setting (a .0 .proto) (a .1 .0) (a .1 .1 .0) (now (a .1 .1 .1 .0))) (length (now (a .1 .1 .1 .1 .0))) (take (x .value) (u .1 .1 .1 .1 .0))
   set-built unit k = front-built (a .0) unit _ (now (a .1 .1 .1 .1 .0)) (u .1 .1 .1 .1 .0) x post k
 
+module _ (κs : Lfts 1) (a : Dens κs mask-kinds.ps) (x : resT mask-kinds.r κs .Denot) (u : Lasts (endedOf 1 mask-kinds.ps mask-kinds.r) κs a)
+    (post : mask-reads.Post κs a x (atExit (endedOf 1 mask-kinds.ps mask-kinds.r) κs a u)) where
+  pub mask-built : a .0 .«unit_id» < 256 → x .kind ≡ 0
+      → Built (a .0) (go (masks (a .1 .0) (a .1 .1 .0) (a .1 .1 .1 .0))) (length (now (a .1 .1 .1 .1 .0))) (take (x .value) (u .1 .1 .1 .1 .0))
+  mask-built unit k = front-built (a .0) unit _ (now (a .1 .1 .1 .1 .0)) (u .1 .1 .1 .1 .0) x post k
+
+module _ (κs : Lfts 2) (a : Dens κs set-get-kinds.ps) (x : resT set-get-kinds.r κs .Denot) (u : Lasts (endedOf 2 set-get-kinds.ps set-get-kinds.r) κs a)
+    (post : set-get-reads.Post κs a x (atExit (endedOf 2 set-get-kinds.ps set-get-kinds.r) κs a u)) where
+  pub set-get-built : a .0 .«unit_id» < 256 → x .kind ≡ 0
+      → Built (a .0) (go (swaps (a .1 .0) (a .1 .1 .0) (a .1 .1 .1 .0) (now (a .1 .1 .1 .1 .0)))) (length (now (a .1 .1 .1 .1 .1 .0))) (take (x .value) (u .1 .1 .1 .1 .1 .0))
+  set-get-built unit k = front-built (a .0) unit _ (now (a .1 .1 .1 .1 .1 .0)) (u .1 .1 .1 .1 .1 .0) x post k
+
 -- ---- reading back
 
 -- a call of the driver, and then one of parse_response: its request is the driver's frame, its response what the driver left in front of the reply
@@ -112,17 +128,16 @@ module _ (κs : Lfts 7) (a : Dens κs drive-kinds.ps) (x : resT drive-kinds.r κ
         values-back (a .0) _ (lent κs a) (frame κs a) (reply κs a) frameBytes (left κs a x u) post holdingBytes inputBytes
         before after w heard o
 
-    -- value i is cell first + i of its table
-    pub cell-back : x .outcome ≡ 0 → (t : Tab) (first n : ℕ)
-        → ((r : Request) → Serves (setup κs a) (frame κs a) r → r .ask ≡ read t first n) → n ≤ length before → (i : ℕ) → i < n
-        → getD after i 0 ≡ tablesOf (lentAfter (lent κs a) (left κs a x u)) t (first + i)
-    cell-back o t first n asks fits i h =
+    -- value i is cell first + i of the range that is read
+    pub cell-back : x .outcome ≡ 0 → (g : Range)
+        → ((r : Request) → Serves (setup κs a) (frame κs a) r → reading (r .ask) ≡ g ∷ []) → g .count ≤ length before → (i : ℕ) → i < g .count
+        → getD after i 0 ≡ tablesOf (lentAfter (lent κs a) (left κs a x u)) (g .tab) (g .first + i)
+    cell-back o g asks fits i h =
         let (r, serves, k) = read-back o in
-        let e = asks r serves in
         let T = tablesOf (lentAfter (lent κs a) (left κs a x u)) in
-        let f : shownCount (r .ask) ≤ length before = subst (λ (q : Ask). shownCount q ≤ length before) (sym e) fits in
-        let z = k f .1 ∙ ap (λ (q : Ask). sets before 0 (found q (seen T))) e in
-        ap (λ (l : List ℕ). getD l i 0) z ∙ value-cell (T t) first n i before fits h
+        let (n, p) = found-range (r .ask) g (seen T) (asks r serves) in
+        let z = k (rw n fits) .1 ∙ ap (sets before 0) p in
+        ap (λ (l : List ℕ). getD l i 0) z ∙ value-cell (T (g .tab)) (g .first) (g .count) i before fits h
 
     -- an exception is told as it was sent
     pub refused-back : x .outcome ≡ 2 → (r : Request) → Says (a .0 .transport) (frame κs a) r → shownCount (r .ask) ≤ length before

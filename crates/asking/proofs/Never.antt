@@ -7,13 +7,12 @@ use native.Mathlib.Omega.{arith}
 use lib.ListN.{getD}
 use Rattle.modbus.specs.Step.{Step, go}
 use Rattle.modbus.specs.Bytes.{Bytes}
-use Rattle.modbus.specs.Table.{Tab, kindOf}
-use Rattle.modbus.specs.Request.{code, Ask, read, write, writes, fnOf, octets, answer}
+use Rattle.modbus.specs.Request.{code, Ask, read, write, writes, masks, swaps, fnOf, octets, answer}
 use Rattle.modbus.specs.Paper.{protoOf}
 use Rattle.modbus.specs.Decode.{Message, unitOf, numberOf, IsRead, unwrap}
 use Rattle.modbus.proofs.FrameLaws.{complete}
 use Rattle.demands.specs.Demand.{Request}
-use Rattle.client.specs.Asking.{shows, understood}
+use Rattle.client.specs.Asking.{shows, shownCount, kindShown, understood}
 use Rattle.asking.specs.Belonging.{Says, Shows}
 use Rattle.asking.proofs.Sent.{messageOf, says-sent}
 use Rattle.asking.proofs.OnlyMine.{only-mine, shows-function}
@@ -28,15 +27,21 @@ says-same n f p q h k =
     go-same : {F A : Type 0} {a b : A} → _≡_ {A = Step F A} (go a) (go b) → a ≡ b
     go-same e = cc
 
--- the values of an answer to a read are behind their byte count
-count-shown : (t : Tab) (s c : ℕ) (vs l : List ℕ) → Shows (read t s c) vs l → getD l 1 0 ≡ octets (kindOf t) c
-count-shown t s c vs l (counted, fits, (pad, fills, e)) = rw e refl
+-- values of cells are behind their byte count
+count-shown : (a : Ask) (vs l : List ℕ) → IsRead (fnOf a) → Shows a vs l → getD l 1 0 ≡ octets (kindShown a) (shownCount a)
+count-shown (read t s c) vs l i (counted, fits, (pad, fills, e)) = rw e refl
+count-shown (write k a v) vs l i h = absurd i
+count-shown (writes k s ws) vs l i h = absurd i
+count-shown (masks a x y) vs l i h = absurd i
+count-shown (swaps r c s ws) vs l i (counted, fits, (pad, fills, e)) = rw e refl
 
 -- an answer to a write is its echo
 echo-shown : (a : Ask) (vs l : List ℕ) → ¬ IsRead (fnOf a) → Shows a vs l → l ≡ answer a []
 echo-shown (read t s c) vs l n h = absurd (n tt)
 echo-shown (write k a v) vs l n h = h .1
 echo-shown (writes k s ws) vs l n h = h .1
+echo-shown (masks a x y) vs l n h = h .1
+echo-shown (swaps r c s ws) vs l n h = absurd (n tt)
 
 module _ (n : ℕ) (f r : List ℕ) (room : ℕ) (y : Bytes f) (z : Bytes r) (q : Request) (h : Says n f q) (m : Message) (w : unwrap (protoOf n) r ≡ go m)
     (vs : List ℕ) where
@@ -61,10 +66,9 @@ module _ (n : ℕ) (f r : List ℕ) (room : ℕ) (y : Bytes f) (z : Bytes r) (q 
   pub other-function : ¬ (numberOf m ≡ code (fnOf (q .ask))) → ¬ (understood n f r room ≡ go (shows vs))
   other-function d e = let (l, s, v) = around e in d (ap numberOf v ∙ shows-function (q .ask) vs l s)
 
-  pub other-count : (t : Tab) (s c : ℕ) → q .ask ≡ read t s c → ¬ (getD (m .body) 2 0 ≡ octets (kindOf t) c) → ¬ (understood n f r room ≡ go (shows vs))
-  other-count t s c a d e =
-      let (l, k, v) = around e in
-      d (ap (λ (x : Message). getD (x .body) 2 0) v ∙ count-shown t s c vs l (subst (λ (x : Ask). Shows x vs l) a k))
+  pub other-count : IsRead (fnOf (q .ask)) → ¬ (getD (m .body) 2 0 ≡ octets (kindShown (q .ask)) (shownCount (q .ask)))
+      → ¬ (understood n f r room ≡ go (shows vs))
+  other-count i d e = let (l, k, v) = around e in d (ap (λ (x : Message). getD (x .body) 2 0) v ∙ count-shown (q .ask) vs l i k)
 
   pub other-echo : ¬ IsRead (fnOf (q .ask)) → ¬ (m .body ≡ q .unit ∷ answer (q .ask) []) → ¬ (understood n f r room ≡ go (shows vs))
   other-echo i d e =

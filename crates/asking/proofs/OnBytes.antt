@@ -4,15 +4,15 @@
 -- Assumes nothing.
 use mathlib.Core.Logic.{by-cases}
 use mathlib.Core.Path.{_≡_, refl, sym, ap, _∙_, subst}
-use mathlib.Core.List.{List}
+use mathlib.Core.List.{List, [], _∷_, head-eq-of-cons-eq}
 use Prim.Native.Nat.{ℕ, _+_, _*_, _≤_, _<_}
 use native.Mathlib.Omega.{arith}
 use lib.ListN.{length, take, getD, List·getD-append}
 use lib.Seq.{sets, sets-eq}
 use Rattle.modbus.specs.Step.{Step, stop, go}
 use Rattle.modbus.specs.Bytes.{Bytes}
-use Rattle.modbus.specs.Table.{coils, discretes, holdings, inputs, part}
-use Rattle.modbus.specs.Request.{seen, found}
+use Rattle.modbus.specs.Table.{coils, discretes, holdings, inputs, Range, part}
+use Rattle.modbus.specs.Request.{Ask, read, write, writes, masks, swaps, reading, Seen, seen, found}
 use Rattle.modbus.specs.Storage.{registerAt}
 use Rattle.modbus.specs.Setup.{Setup, Valid, valid?, Roomy, roomy?}
 use Rattle.modbus.specs.Drive.{Result, drive}
@@ -105,6 +105,15 @@ module _ (n : Numbers) (list : List ℕ) (l : Lent) (frame reply : List ℕ) (y 
         let (t, a) = told-code out after w _ _ q
         (subst (λ (x : Result). understood (n .transport) frame (x .reply) (length out) ≡ go (excepted (x .exceptionCode))) (sym due) b) in
         (t, a, ap (λ (x : Result). x .exceptionCode) due ∙ c)
+
+-- what is found are the cells of the range that is read
+pub found-range : (a : Ask) (g : Range) (w : Seen) → reading a ≡ g ∷ []
+    → (shownCount a ≡ g .count) × (found a w ≡ part (w .tables (g .tab)) (g .first) (g .count))
+found-range (read t s n) g w e = let z = head-eq-of-cons-eq e in (ap (λ (x : Range). x .count) z, ap (λ (x : Range). part (w .tables (x .tab)) (x .first) (x .count)) z)
+found-range (write k a v) g w e = let z : _≡_ {A = ℕ} 0 1 = cc in absurd (omega arith)
+found-range (writes k s vs) g w e = let z : _≡_ {A = ℕ} 0 1 = cc in absurd (omega arith)
+found-range (masks a x y) g w e = let z : _≡_ {A = ℕ} 0 1 = cc in absurd (omega arith)
+found-range (swaps r n s vs) g w e = let z = head-eq-of-cons-eq e in (ap (λ (x : Range). x .count) z, ap (λ (x : Range). part (w .tables (x .tab)) (x .first) (x .count)) z)
 
 -- value i of a read is cell first + i
 pub value-cell : (f : ℕ → ℕ) (first n i : ℕ) (out : List ℕ) → n ≤ length out → i < n → getD (sets out 0 (part f first n)) i 0 ≡ f (first + i)

@@ -10,7 +10,7 @@ use lib.ListN.{length, getD, take, drop, length-drop}
 use Rattle.modbus.specs.Step.{Step, stop, go}
 use Rattle.modbus.specs.Bytes.{All, Bytes, two}
 use Rattle.modbus.specs.Table.{Kind, bit, word, Tab, kindOf, Fits}
-use Rattle.modbus.specs.Request.{reads, code, Ask, read, write, writes, fnOf, Permitted, Encodes, cargo, octets, Fills, answer, exception}
+use Rattle.modbus.specs.Request.{reads, both, code, Ask, read, write, writes, masks, swaps, fnOf, Permitted, Encodes, cargo, octets, Fills, answer, exception}
 use Rattle.modbus.specs.Storage.{values}
 use Rattle.modbus.specs.Paper.{protoOf}
 use Rattle.modbus.specs.Frame.{Framed}
@@ -21,9 +21,9 @@ use Rattle.modbus.proofs.CargoLaws.{values-of, values-back, length-cargo}
 use Rattle.modbus.proofs.FindLaws.{code-low}
 use Rattle.modbus.proofs.FrameLaws.{sound, complete}
 use Rattle.demands.specs.Demand.{Request}
-use Rattle.client.specs.Asking.{Declined, notMyReply, orSilent, sentAs, Reply, shows, excepted, shownCount, Excepts, excepts?, Answers, answers?, heldIn, answered, heard, mine?, replied, understood}
+use Rattle.client.specs.Asking.{Declined, notMyReply, orSilent, sentAs, Reply, shows, excepted, shownCount, Excepts, excepts?, Brings, Answers, answers?, heldIn, answered, heard, mine?, replied, understood}
 use Rattle.client.proofs.HearLaws.{silent-go}
-use Rattle.asking.specs.Belonging.{Says, Shows, Answering, Excepting}
+use Rattle.asking.specs.Belonging.{Says, Carries, Shows, Answering, Excepting}
 use Rattle.asking.proofs.Sent.{requested, messageOf, sent-says, says-sent, says-number}
 
 silent-went : {A : Type 0} (s : Step Silent A) {a : A} → orSilent s ≡ go a → s ≡ go a
@@ -48,48 +48,66 @@ three-more (x ∷ y ∷ z ∷ b) n e = refl
 
 -- ---- an answer's body
 
--- the first six bytes of a write's body are its unit and its answer
+-- the first six bytes of a write's body are its unit and its answer, and so are the eight of a mask write
 write-front : (k : Kind) (a v u : ℕ) (l : List ℕ) → Encodes (write k a v) l → take 6 (u ∷ l) ≡ u ∷ answer (write k a v) []
 write-front k a v u l (pad, q, e) = rw e refl
 
 writes-front : (k : Kind) (s u : ℕ) (ws l : List ℕ) → Encodes (writes k s ws) l → take 6 (u ∷ l) ≡ u ∷ answer (writes k s ws) []
 writes-front k s u ws l (pad, q, e) = rw e refl
 
+mask-front : (a x y u : ℕ) (l : List ℕ) → Encodes (masks a x y) l → take 8 (u ∷ l) ≡ u ∷ answer (masks a x y) []
+mask-front a x y u l (pad, q, e) = rw e refl
+
 cons-tail : {x y : ℕ} {l m : List ℕ} → x ∷ l ≡ y ∷ m → l ≡ m
 cons-tail e = ap (λ (z : List ℕ). drop 1 z) e
+
+-- a body that brings cells carries the values that it holds
+brings-carries : (k : Kind) (function n u : ℕ) (b : List ℕ) → Bytes b → getD b 0 0 ≡ u → Brings function (octets k n) b
+    → (m : List ℕ) × Carries k function n (values k n (drop 3 b)) m × (b ≡ u ∷ m)
+brings-carries k function n u b y first (long, (fn, count)) =
+    let d = drop 3 b in
+    let z : length d ≡ octets k n = length-drop 3 b ∙ omega arith in
+    let h = values-of k n d (all-drop (λ x. x < 256) 3 b y) z in
+    let m = function ∷ octets k n ∷ cargo k (values k n d) (h .pad) in (
+      m,
+      (h .counted, h .fits, (h .pad, h .fills, refl)),
+      three-more b (octets k n) long
+          ∙ ap₂ (λ (x : ℕ) (z : List ℕ). x ∷ z) first (ap₂ (λ (x : ℕ) (z : List ℕ). x ∷ z) fn (ap₂ (λ (x : ℕ) (z : List ℕ). x ∷ z) count (sym (h .back)))),
+    )
+
+carries-brings : (k : Kind) (function n u : ℕ) (m vs : List ℕ) → Carries k function n vs m
+    → Brings function (octets k n) (u ∷ m) × (values k n (drop 3 (u ∷ m)) ≡ vs)
+carries-brings k function n u m vs (count, fits, (pad, fills, q)) =
+    let w = length-cargo k vs pad fills in
+    let z : octets k (length vs) ≡ octets k n = ap (octets k) count in (
+      rw q (omega arith, (refl, refl)),
+      rw q (subst (λ (i : ℕ). values k i (cargo k vs pad) ≡ vs) count (values-back k vs pad fits fills)),
+    )
 
 -- a body that is an answer shows the values that it holds
 answers-shows : (a : Ask) (u : ℕ) (l b : List ℕ) → Encodes a l → Bytes b → getD b 0 0 ≡ u → Answers a (u ∷ l) b
     → (m : List ℕ) × Shows a (heldIn a b) m × (b ≡ u ∷ m)
-answers-shows (read t s n) u l b e y first (long, (fn, count)) =
-    let d = drop 3 b in
-    let k : length d ≡ octets (kindOf t) n = length-drop 3 b ∙ omega arith in
-    let h = values-of (kindOf t) n d (all-drop (λ x. x < 256) 3 b y) k in
-    let m = code (reads t) ∷ octets (kindOf t) n ∷ cargo (kindOf t) (values (kindOf t) n d) (h .pad) in (
-      m,
-      (h .counted, h .fits, (h .pad, h .fills, refl)),
-      three-more b (octets (kindOf t) n) long
-          ∙ ap₂ (λ (x : ℕ) (z : List ℕ). x ∷ z) first (ap₂ (λ (x : ℕ) (z : List ℕ). x ∷ z) fn (ap₂ (λ (x : ℕ) (z : List ℕ). x ∷ z) count (sym (h .back)))),
-    )
+answers-shows (read t s n) u l b e y first same = brings-carries (kindOf t) (code (reads t)) n u b y first same
 answers-shows (write k a v) u l b e y first same = (answer (write k a v) [], (refl, refl), same ∙ write-front k a v u l e)
 answers-shows (writes k s ws) u l b e y first same = (answer (writes k s ws) [], (refl, refl), same ∙ writes-front k s u ws l e)
+answers-shows (masks a v w) u l b e y first same = (answer (masks a v w) [], (refl, refl), same ∙ mask-front a v w u l e)
+answers-shows (swaps r n s ws) u l b e y first same = brings-carries word (code both) n u b y first same
 
 -- and a body that shows values is an answer that holds them
 shows-answers : (a : Ask) (u : ℕ) (l m vs : List ℕ) → Encodes a l → Shows a vs m → Answers a (u ∷ l) (u ∷ m) × (heldIn a (u ∷ m) ≡ vs)
-shows-answers (read t s n) u l m vs e (count, fits, (pad, fills, q)) =
-    let k = length-cargo (kindOf t) vs pad fills in
-    let z : octets (kindOf t) (length vs) ≡ octets (kindOf t) n = ap (octets (kindOf t)) count in (
-      rw q (omega arith, (refl, refl)),
-      rw q (subst (λ (i : ℕ). values (kindOf t) i (cargo (kindOf t) vs pad) ≡ vs) count (values-back (kindOf t) vs pad fits fills)),
-    )
+shows-answers (read t s n) u l m vs e h = carries-brings (kindOf t) (code (reads t)) n u m vs h
 shows-answers (write k a v) u l m vs e (none, q) = (rw q (sym (write-front k a v u l e)), sym none)
 shows-answers (writes k s ws) u l m vs e (none, q) = (rw q (sym (writes-front k s u ws l e)), sym none)
+shows-answers (masks a x y) u l m vs e (none, q) = (rw q (sym (mask-front a x y u l e)), sym none)
+shows-answers (swaps r n s ws) u l m vs e h = carries-brings word (code both) n u m vs h
 
 -- no answer is an exception
 pub shows-function : (a : Ask) (vs m : List ℕ) → Shows a vs m → getD m 0 0 ≡ code (fnOf a)
 shows-function (read t s n) vs m (count, fits, (pad, fills, q)) = rw q refl
 shows-function (write k a v) vs m (none, q) = rw q refl
 shows-function (writes k s ws) vs m (none, q) = rw q refl
+shows-function (masks a x y) vs m (none, q) = rw q refl
+shows-function (swaps r n s ws) vs m (count, fits, (pad, fills, q)) = rw q refl
 
 shows-unexcepted : (a : Ask) (u : ℕ) (vs m : List ℕ) → Shows a vs m → ¬ Excepts a (u ∷ m)
 shows-unexcepted a u vs m h e = omega (arith, shows-function a vs m h, e .1 .0)

@@ -8,7 +8,7 @@ use lib.ListN.{length, drop, replicate, length-replicate}
 use Rattle.modbus.specs.Step.{go}
 use Rattle.modbus.specs.Bytes.{Bytes}
 use Rattle.modbus.specs.Table.{Kind, bit, word, Tab, coils, discretes, holdings, inputs, kindOf, Fits, Tables, Range, part}
-use Rattle.modbus.specs.Request.{Fn, code, reads, Ask, read, write, writes, fnOf, reading, writing, cargo, octets, Fills, Encodes, shown, apply, seen, found, answer, exception}
+use Rattle.modbus.specs.Request.{Fn, code, reads, both, Ask, read, write, writes, masks, swaps, fnOf, reading, writing, Permitted, cargo, octets, Fills, Encodes, shown, apply, seen, found, answer, exception}
 use Rattle.modbus.specs.Paper.{protoOf}
 use Rattle.modbus.specs.Frame.{Framed, wrap}
 use Rattle.modbus.specs.Setup.{Setup, proto, Valid, Roomy}
@@ -16,7 +16,7 @@ use Rattle.modbus.specs.Unit.{Broadcast}
 use Rattle.modbus.specs.Decode.{Message, unitOf, numberOf, unwrap}
 use Rattle.modbus.specs.Drive.{AllWithin, Inside, drive}
 use Rattle.modbus.proofs.StorageLaws.{length-part, part-all}
-use Rattle.modbus.proofs.AnswerLaws.{Proper, answer-fits, answer-bytes}
+use Rattle.modbus.proofs.AnswerLaws.{Proper, assign-proper, answer-fits, answer-bytes}
 use Rattle.modbus.proofs.DriveLaws.{go-after}
 use Rattle.modbus.proofs.FindLaws.{code-low}
 use Rattle.modbus.proofs.FrameLaws.{complete}
@@ -28,7 +28,7 @@ use Rattle.demands.proofs.Exactly.{exactly}
 use Rattle.demands.proofs.Replies.{reply-bytes}
 use Rattle.client.specs.Asking.{everyCell, shows, excepted, shownCount, understood}
 use Rattle.client.proofs.LayLaws.{zero-bits}
-use Rattle.asking.specs.Belonging.{Says, Shows, Excepting}
+use Rattle.asking.specs.Belonging.{Says, Carries, Shows, Excepting}
 use Rattle.asking.proofs.Sent.{messageOf, says-number}
 use Rattle.asking.proofs.OnlyMine.{only-mine, only-mine-excepted}
 use Rattle.asking.proofs.Built.{least-three, most-253}
@@ -64,14 +64,20 @@ shown-cargo bit vs = (
 )
 shown-cargo word vs = ([], refl, refl)
 
-answer-shows : (a : Ask) (t : Tables) → Proper t → Shows a (found a (seen (apply a t))) (answer a (found a (seen (apply a t))))
-answer-shows (read tab s n) t proper =
+part-carried : (tab : Tab) (function s n : ℕ) (t : Tables) → Proper t
+    → Carries (kindOf tab) function n (part (t tab) s n) (function ∷ octets (kindOf tab) (length (part (t tab) s n)) ∷ shown (kindOf tab) (part (t tab) s n))
+part-carried tab function s n t proper =
     let vs = part (t tab) s n in
     let k = length-part (t tab) s n in
     let (pad, fills, e) = shown-cargo (kindOf tab) vs in
-    (k, part-all (t tab) (Fits (kindOf tab)) s n (proper tab), (pad, fills, ap₂ (λ (i : ℕ) (l : List ℕ). code (reads tab) ∷ octets (kindOf tab) i ∷ l) k e))
-answer-shows (write k a v) t proper = (refl, refl)
-answer-shows (writes k s ws) t proper = (refl, refl)
+    (k, part-all (t tab) (Fits (kindOf tab)) s n (proper tab), (pad, fills, ap₂ (λ (i : ℕ) (l : List ℕ). function ∷ octets (kindOf tab) i ∷ l) k e))
+
+answer-shows : (a : Ask) (t : Tables) → Permitted a → Proper t → Shows a (found a (seen (apply a t))) (answer a (found a (seen (apply a t))))
+answer-shows (read tab s n) t p proper = part-carried tab (code (reads tab)) s n t proper
+answer-shows (write k a v) t p proper = (refl, refl)
+answer-shows (writes k s ws) t p proper = (refl, refl)
+answer-shows (masks a x y) t p proper = (refl, refl)
+answer-shows (swaps r n s ws) t p proper = part-carried holdings (code both) r n (apply (swaps r n s ws) t) (assign-proper _ ws t (p .4) proper)
 
 module _ (s : Setup) (t : Tables) (f : List ℕ) (y : Bytes f) (v : Valid s) (roomy : Roomy s) (proper : Proper t) where
   after-is : (q : Request) → Serves s f q → drive s t f .after ≡ apply (q .ask) t
@@ -100,7 +106,7 @@ module _ (s : Setup) (t : Tables) (f : List ℕ) (y : Bytes f) (v : Valid s) (ro
         fits,
         (
           answer a vs,
-          answer-shows a t proper,
+          answer-shows a t (h .permitted) proper,
           record {
             bytes = (framed .bytes .0, answer-bytes a t l proper (h .permitted) encodes (framed .bytes .1));
             low = omega (arith, least-three (proto s), n .low);

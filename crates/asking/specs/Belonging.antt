@@ -6,8 +6,8 @@ use mathlib.Core.List.{List, [], _∷_}
 use Prim.Native.Nat.{ℕ, _≤_, _<_}
 use lib.ListN.{length, getD, take}
 use Rattle.modbus.specs.Bytes.{All}
-use Rattle.modbus.specs.Table.{kindOf, Fits}
-use Rattle.modbus.specs.Request.{reads, code, Ask, read, write, writes, fnOf, Permitted, cargo, octets, Fills, answer, exception}
+use Rattle.modbus.specs.Table.{Kind, word, kindOf, Fits}
+use Rattle.modbus.specs.Request.{reads, both, code, Ask, read, write, writes, masks, swaps, fnOf, Permitted, cargo, octets, Fills, answer, exception}
 use Rattle.modbus.specs.Paper.{protoOf}
 use Rattle.modbus.specs.Frame.{Framed}
 use Rattle.modbus.specs.Decode.{Message}
@@ -23,13 +23,18 @@ pub record Says (n : ℕ) (f : List ℕ) (q : Request) : Type 0 where
   pub inside : Inside (everyCell n) (q .ask)
   pub encoded : Encoded (everyCell n) q f
 
--- an answer to it that shows these values, with any pad bits
+-- n values behind a function and their byte count, with any pad bits
+abbrev pub Carries : Kind → ℕ → ℕ → List ℕ → List ℕ → Type 0
+Carries k function n vs l =
+    (length vs ≡ n) × All (Fits k) vs × ((pad : List ℕ) × Fills k vs pad × (l ≡ function ∷ octets k n ∷ cargo k vs pad))
+
+-- an answer to it that shows these values
 abbrev pub Shows : Ask → List ℕ → List ℕ → Type 0
-Shows (read t s n) vs l =
-    (length vs ≡ n) × All (Fits (kindOf t)) vs
-    × ((pad : List ℕ) × Fills (kindOf t) vs pad × (l ≡ code (reads t) ∷ octets (kindOf t) n ∷ cargo (kindOf t) vs pad))
+Shows (read t s n) vs l = Carries (kindOf t) (code (reads t)) n vs l
 Shows (write k a v) vs l = (vs ≡ []) × (l ≡ answer (write k a v) [])
 Shows (writes k s ws) vs l = (vs ≡ []) × (l ≡ answer (writes k s ws) [])
+Shows (masks a x y) vs l = (vs ≡ []) × (l ≡ answer (masks a x y) [])
+Shows (swaps r n s ws) vs l = Carries word (code both) n vs l
 
 -- a frame, within the bounds, of the same transaction and unit around an answer with these values
 abbrev pub Answering : ℕ → Request → List ℕ → List ℕ → Type 0

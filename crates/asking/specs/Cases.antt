@@ -4,16 +4,21 @@ use mathlib.Core.List.{List, [], _∷_, _++_}
 use Prim.Native.Nat.{ℕ}
 use lib.ListN.{length, replicate}
 use Rattle.modbus.specs.Step.{Step, stop, go}
+use Rattle.modbus.specs.Request.{masks, swaps}
 use Rattle.client.specs.declared.ModbusRequest.{ModbusRequest}
 use Rattle.client.specs.Asking.{Declined, declinedBy, getting, setting, generated, Reply, shows, excepted, understood}
 use Rattle.asking.specs.Impostors.{two-asked, one-sent}
 
--- what a case says: of a transport, a transaction number, a function, a first cell, a count or values, and room, the kind and the frame; of a
--- transport, a request, a reply and room, the outcome, the code and the values; and of such a request without its frame only the kind and length
+-- what a case says: of a transport, a transaction number, a function, a first cell, a count or values, and room, the kind and the frame; so of a
+-- holding and two masks, and of cells to read and to write; of a transport, a request, a reply and room, the outcome, the code and the values; and
+-- of such a request without its frame only the kind and length
 pub data Case : Type 0 where
   get : ℕ → ℕ → ℕ → ℕ → ℕ → ℕ → ℕ → List ℕ → Case
   set : ℕ → ℕ → ℕ → ℕ → List ℕ → ℕ → ℕ → List ℕ → Case
+  change : ℕ → ℕ → ℕ → ℕ → ℕ → ℕ → ℕ → List ℕ → Case
+  swap : ℕ → ℕ → ℕ → ℕ → ℕ → List ℕ → ℕ → ℕ → List ℕ → Case
   long : ℕ → ℕ → ℕ → List ℕ → ℕ → ℕ → ℕ → Case
+  longSwap : ℕ → ℕ → ℕ → ℕ → List ℕ → ℕ → ℕ → ℕ → Case
   hear : ℕ → List ℕ → List ℕ → ℕ → ℕ → ℕ → List ℕ → Case
 
 abbrev to : ℕ → ℕ → ModbusRequest
@@ -40,9 +45,18 @@ computed (get n tr func reg count room k f) =
 computed (set n tr func reg vs room k f) =
     let s = generated (to n tr) (setting n func reg vs) room in
     set n tr func reg vs room (kindOf s) (frameOf s)
+computed (change n tr reg x y room k f) =
+    let s = generated (to n tr) (go (masks reg x y)) room in
+    change n tr reg x y room (kindOf s) (frameOf s)
+computed (swap n tr reg count at vs room k f) =
+    let s = generated (to n tr) (go (swaps reg count at vs)) room in
+    swap n tr reg count at vs room (kindOf s) (frameOf s)
 computed (long n func reg vs room k l) =
     let s = generated (to n 0) (setting n func reg vs) room in
     long n func reg vs room (kindOf s) (length (frameOf s))
+computed (longSwap n reg count at vs room k l) =
+    let s = generated (to n 0) (go (swaps reg count at vs)) room in
+    longSwap n reg count at vs room (kindOf s) (length (frameOf s))
 computed (hear n f r room o c vs) = heardAs n f r room (understood n f r room)
 
 -- ---- building
@@ -120,6 +134,40 @@ building =
     ∷ long 0 16 0 (replicate 123 1) 255 0 255
     ∷ long 1 16 0 (replicate 123 1) 511 0 511
     ∷ long 1 16 0 (replicate 123 1) 510 9 0
+    -- 22 (document 02, 2026-05), with room for exactly the frame and for a byte less, on RTU, at the last cell and one beyond it; masks up to 65,535
+    ∷ change 2 0x18 2 0x00F2 0x0025 14 0 (0x00 ∷ 0x18 ∷ 0x00 ∷ 0x00 ∷ 0x00 ∷ 0x08 ∷ 0x01 ∷ 0x16 ∷ 0x00 ∷ 0x02 ∷ 0x00 ∷ 0xF2 ∷ 0x00 ∷ 0x25 ∷ [])
+    ∷ change 2 0x18 2 0x00F2 0x0025 13 9 []
+    ∷ change 0 0x18 2 0x00F2 0x0025 10 0 (0x01 ∷ 0x16 ∷ 0x00 ∷ 0x02 ∷ 0x00 ∷ 0xF2 ∷ 0x00 ∷ 0x25 ∷ 0xEF ∷ 0xEE ∷ [])
+    ∷ change 2 0 65535 65535 65535 14 0 (0x00 ∷ 0x00 ∷ 0x00 ∷ 0x00 ∷ 0x00 ∷ 0x08 ∷ 0x01 ∷ 0x16 ∷ 0xFF ∷ 0xFF ∷ 0xFF ∷ 0xFF ∷ 0xFF ∷ 0xFF ∷ [])
+    ∷ change 2 0 65536 0 0 14 11 []
+    ∷ change 2 0 0 65536 0 14 11 []
+    ∷ change 2 0 0 0 65536 14 11 []
+    ∷ change 3 0 0 0 0 14 11 []
+    -- 23: the frame, the last cells, and each count on both sides; the longest on each transport
+    ∷ swap 2 0x19 0 3 1 (0xAAAA ∷ 0xBBBB ∷ []) 21 0
+    (0x00 ∷ 0x19 ∷ 0x00 ∷ 0x00 ∷ 0x00 ∷ 0x0F ∷ 0x01 ∷ 0x17 ∷ 0x00 ∷ 0x00 ∷ 0x00 ∷ 0x03 ∷ 0x00 ∷ 0x01 ∷ 0x00 ∷ 0x02 ∷ 0x04 ∷ 0xAA ∷ 0xAA ∷ 0xBB ∷ 0xBB ∷ [])
+    ∷ swap 2 0x19 0 3 1 (0xAAAA ∷ 0xBBBB ∷ []) 20 9 []
+    ∷ swap 0 0x19 0 3 1 (0xAAAA ∷ 0xBBBB ∷ []) 17 0
+    (0x01 ∷ 0x17 ∷ 0x00 ∷ 0x00 ∷ 0x00 ∷ 0x03 ∷ 0x00 ∷ 0x01 ∷ 0x00 ∷ 0x02 ∷ 0x04 ∷ 0xAA ∷ 0xAA ∷ 0xBB ∷ 0xBB ∷ 0x64 ∷ 0x32 ∷ [])
+    ∷ longSwap 2 65535 1 65535 (65535 ∷ []) 19 0 19
+    ∷ longSwap 2 65535 2 0 (1 ∷ []) 260 11 0
+    ∷ longSwap 2 0 1 65535 (1 ∷ 1 ∷ []) 260 11 0
+    ∷ longSwap 2 0 1 0 (65536 ∷ []) 260 11 0
+    ∷ longSwap 2 0 0 0 (1 ∷ []) 260 11 0
+    ∷ longSwap 2 0 125 0 (1 ∷ []) 260 0 19
+    ∷ longSwap 2 0 126 0 (1 ∷ []) 260 11 0
+    ∷ longSwap 2 0 1 0 [] 260 11 0
+    ∷ longSwap 2 0 125 0 (replicate 121 1) 259 0 259
+    ∷ longSwap 2 0 125 0 (replicate 121 1) 258 9 0
+    ∷ longSwap 2 0 125 0 (replicate 122 1) 262 11 0
+    ∷ longSwap 0 0 125 0 (replicate 121 1) 255 0 255
+    ∷ longSwap 1 0 125 0 (replicate 121 1) 511 0 511
+    ∷ longSwap 3 0 1 0 (1 ∷ []) 260 11 0
+    -- which have builders of their own
+    ∷ get 2 0 22 0 1 260 11 []
+    ∷ get 2 0 23 0 1 260 11 []
+    ∷ long 2 22 0 (1 ∷ []) 260 11 0
+    ∷ long 2 23 0 (1 ∷ []) 260 11 0
     ∷ []
 
 -- ---- reading
@@ -137,6 +185,12 @@ register-set = reply (0x01 ∷ 0x06 ∷ 0x00 ∷ 0x02 ∷ 0x12 ∷ 0x34 ∷ [])
 
 abbrev pub coils-set : List ℕ
 coils-set = reply (0x01 ∷ 0x0F ∷ 0x00 ∷ 0x03 ∷ 0x00 ∷ 0x0A ∷ 0x02 ∷ 0xCD ∷ 0x01 ∷ [])
+
+abbrev pub mask-sent : List ℕ
+mask-sent = reply (0x01 ∷ 0x16 ∷ 0x00 ∷ 0x02 ∷ 0x00 ∷ 0xF2 ∷ 0x00 ∷ 0x25 ∷ [])
+
+abbrev pub both-sent : List ℕ
+both-sent = reply (0x01 ∷ 0x17 ∷ 0x00 ∷ 0x00 ∷ 0x00 ∷ 0x03 ∷ 0x00 ∷ 0x01 ∷ 0x00 ∷ 0x02 ∷ 0x04 ∷ 0xAA ∷ 0xAA ∷ 0xBB ∷ 0xBB ∷ [])
 
 abbrev pub rtu-asked : List ℕ
 rtu-asked = 0x01 ∷ 0x03 ∷ 0x00 ∷ 0x00 ∷ 0x00 ∷ 0x02 ∷ 0xC4 ∷ 0x0B ∷ []
@@ -186,6 +240,30 @@ reading =
     ∷ hear 2 register-set (reply (0x01 ∷ 0x06 ∷ 0x00 ∷ 0x02 ∷ 0x12 ∷ 0x34 ∷ 0x00 ∷ [])) 0 12 0 []
     ∷ hear 2 coils-set (reply (0x01 ∷ 0x0F ∷ 0x00 ∷ 0x03 ∷ 0x00 ∷ 0x0A ∷ [])) 0 0 0 []
     ∷ hear 2 coils-set coils-set 0 12 0 []
+    -- the eight bytes of a mask write, each of its masks, one byte less and one more, and its exception
+    ∷ hear 2 mask-sent mask-sent 0 0 0 []
+    ∷ hear 2 mask-sent (reply (0x01 ∷ 0x16 ∷ 0x00 ∷ 0x02 ∷ 0x00 ∷ 0xF2 ∷ 0x00 ∷ 0x26 ∷ [])) 0 12 0 []
+    ∷ hear 2 mask-sent (reply (0x01 ∷ 0x16 ∷ 0x00 ∷ 0x02 ∷ 0x00 ∷ 0xF2 ∷ 0x01 ∷ 0x25 ∷ [])) 0 12 0 []
+    ∷ hear 2 mask-sent (reply (0x01 ∷ 0x16 ∷ 0x00 ∷ 0x02 ∷ 0x00 ∷ 0xF3 ∷ 0x00 ∷ 0x25 ∷ [])) 0 12 0 []
+    ∷ hear 2 mask-sent (reply (0x01 ∷ 0x16 ∷ 0x00 ∷ 0x03 ∷ 0x00 ∷ 0xF2 ∷ 0x00 ∷ 0x25 ∷ [])) 0 12 0 []
+    ∷ hear 2 mask-sent (reply (0x01 ∷ 0x16 ∷ 0x00 ∷ 0x02 ∷ 0x00 ∷ 0xF2 ∷ [])) 0 12 0 []
+    ∷ hear 2 mask-sent (reply (0x01 ∷ 0x16 ∷ 0x00 ∷ 0x02 ∷ 0x00 ∷ 0xF2 ∷ 0x00 ∷ [])) 0 12 0 []
+    ∷ hear 2 mask-sent (reply (0x01 ∷ 0x16 ∷ 0x00 ∷ 0x02 ∷ 0x00 ∷ 0xF2 ∷ 0x00 ∷ 0x25 ∷ 0x00 ∷ [])) 0 12 0 []
+    ∷ hear 2 mask-sent (reply (0x01 ∷ 0x96 ∷ 0x02 ∷ [])) 0 2 2 []
+    ∷ hear 2 mask-sent (reply (0x01 ∷ 0x97 ∷ 0x02 ∷ [])) 0 12 0 []
+    -- the cells that 23 reads: its own function and byte count, and room for them
+    ∷ hear 2 both-sent (reply (0x01 ∷ 0x17 ∷ 0x06 ∷ 0x01 ∷ 0x02 ∷ 0xAA ∷ 0xAA ∷ 0xBB ∷ 0xBB ∷ [])) 3 0 0 (0x0102 ∷ 0xAAAA ∷ 0xBBBB ∷ [])
+    ∷ hear 2 both-sent (reply (0x01 ∷ 0x17 ∷ 0x06 ∷ 0x01 ∷ 0x02 ∷ 0xAA ∷ 0xAA ∷ 0xBB ∷ 0xBB ∷ [])) 2 9 0 []
+    ∷ hear 2 both-sent (reply (0x01 ∷ 0x03 ∷ 0x06 ∷ 0x01 ∷ 0x02 ∷ 0xAA ∷ 0xAA ∷ 0xBB ∷ 0xBB ∷ [])) 3 12 0 []
+    ∷ hear 2 both-sent (reply (0x01 ∷ 0x17 ∷ 0x04 ∷ 0x01 ∷ 0x02 ∷ 0xAA ∷ 0xAA ∷ [])) 3 12 0 []
+    ∷ hear 2 both-sent (reply (0x01 ∷ 0x17 ∷ 0x04 ∷ 0x01 ∷ 0x02 ∷ 0xAA ∷ 0xAA ∷ 0xBB ∷ 0xBB ∷ [])) 3 12 0 []
+    ∷ hear 2 both-sent (reply (0x01 ∷ 0x17 ∷ 0x06 ∷ 0x01 ∷ 0x02 ∷ 0xAA ∷ 0xAA ∷ 0xBB ∷ [])) 3 12 0 []
+    ∷ hear 2 both-sent (reply (0x01 ∷ 0x17 ∷ 0x06 ∷ 0x01 ∷ 0x02 ∷ 0xAA ∷ 0xAA ∷ 0xBB ∷ 0xBB ∷ 0x00 ∷ [])) 3 12 0 []
+    ∷ hear 2 both-sent (reply (0x01 ∷ 0x97 ∷ 0x02 ∷ [])) 3 2 2 []
+    -- what is none: write counts of 0 and of another byte count, a body cut short
+    ∷ hear 2 (reply (0x01 ∷ 0x17 ∷ 0x00 ∷ 0x00 ∷ 0x00 ∷ 0x01 ∷ 0x00 ∷ 0x00 ∷ 0x00 ∷ 0x00 ∷ 0x00 ∷ [])) (reply (0x01 ∷ 0x97 ∷ 0x02 ∷ [])) 3 11 0 []
+    ∷ hear 2 (reply (0x01 ∷ 0x17 ∷ 0x00 ∷ 0x00 ∷ 0x00 ∷ 0x01 ∷ 0x00 ∷ 0x00 ∷ 0x00 ∷ 0x01 ∷ 0x04 ∷ 0x00 ∷ 0x00 ∷ 0x00 ∷ 0x00 ∷ [])) (reply (0x01 ∷ 0x97 ∷ 0x02 ∷ [])) 3 11 0 []
+    ∷ hear 2 (reply (0x01 ∷ 0x16 ∷ 0x00 ∷ 0x02 ∷ 0x00 ∷ 0xF2 ∷ [])) (reply (0x01 ∷ 0x96 ∷ 0x02 ∷ [])) 3 11 0 []
     -- RTU, with its CRC right and wrong; ASCII
     ∷ hear 0 rtu-asked (0x01 ∷ 0x03 ∷ 0x04 ∷ 0x01 ∷ 0x02 ∷ 0x03 ∷ 0x04 ∷ 0x5B ∷ 0x3C ∷ []) 2 0 0 (0x0102 ∷ 0x0304 ∷ [])
     ∷ hear 0 rtu-asked (0x01 ∷ 0x03 ∷ 0x04 ∷ 0x01 ∷ 0x02 ∷ 0x03 ∷ 0x04 ∷ 0x5B ∷ 0x3D ∷ []) 2 6 0 []

@@ -1,6 +1,6 @@
 -- Where the crate's chain of calls and the driver differ on a frame, each with its condition and both answers: a TCP
 -- frame outside the crate's bounds is refused; to our own unit an unknown function is answered without a look at the
--- check, a count of 0 is served, and a byte count is not held against its count.
+-- check, a count of 0 is served, and a byte count is not held against its count; functions 22 and 23 are answered by code 1.
 -- Assumes nothing.
 use mathlib.Core.Bool.{Bool, true, false}
 use mathlib.Core.Logic.{_⊎_, inl, inr, _≢_, by-cases}
@@ -37,11 +37,11 @@ use Rattle.frame.specs.Parse.{orLeave, frameParsed}
 use Rattle.process.specs.Process.{storedMany, tableFor}
 use Rattle.driver.specs.Driven.{setupOf}
 use Rattle.driver.specs.declared.Setup.{Setup as Numbers}
-use Rattle.demands.specs.Order.{Shaped, Known, Coded, exception-sent, ignored, frame-broken, frame-check, bad-value}
+use Rattle.demands.specs.Order.{Shaped, Sent, Known, Coded, exception-sent, ignored, frame-broken, frame-check, bad-value}
 use Rattle.demands.proofs.PlaceLaws.{value-by-places}
 use Rattle.demands.proofs.Judge.{Returns, refusal-returns}
 use Rattle.chain.specs.Chain.{chainedTo, fromParsed, chained, handed, asFn, onLine, Serial, Bounded, fullest, Gives, Untested, Misfit, spoken}
-use Rattle.chain.proofs.Shared.{as-code}
+use Rattle.chain.proofs.Shared.{as-code, two-unknown}
 use Rattle.chain.proofs.Response.{spoken-line, closed, closed-line, gives}
 use Rattle.chain.proofs.Laid.{Laid, front-of-line, laid}
 use Rattle.chain.proofs.Parsed.{answers, Heard, ready}
@@ -49,7 +49,7 @@ use Rattle.chain.proofs.Processed.{table, cells, stored-whole}
 use Rattle.chain.proofs.Carried.{coilsThen, holdingsThen, chain-read, chain-many}
 use Rattle.chain.proofs.Faults.{chain-unsupported, chain-read-outside, chain-many-refused}
 use Rattle.chain.proofs.Served.{unheard, table-sound, written-sound}
-use Rattle.chain.proofs.Excepted.{own}
+use Rattle.chain.proofs.Excepted.{least-two, own}
 
 serial-tag : (p : ModbusProto) → Serial p → 0 ≡ tagLength p
 serial-tag Rtu h = refl
@@ -185,6 +185,22 @@ module _ (numbers : Numbers) (list : List ℕ) (l : Lent) (reply frame out : Lis
           → Differ (wrap (proto s) [] (unit ∷ exception f 1)) (l .coilBytes) (l .holdingBytes) 6 0 []
       unknown-unchecked valid roomy shaped wrong =
           (unknown-answered, refusal-returns s (tablesOf l) frame y (frame-check valid roomy shaped wrong))
+
+    -- ---- a good frame of function 22 or 23, to us or to all: the chain answers by code 1, whether the driver serves it or not
+
+    module _ (m : Message) (sent : Sent s frame m) (within : Bounded (proto s) (m .body)) (reached : Broadcast s (unitOf m) ⊎ Ours s (unitOf m))
+        (new : (numberOf m ≡ 22) ⊎ (numberOf m ≡ 23)) where
+      pub unknown-to-the-crate : Gives (proto s) (chained unit (proto s) list l (handed (proto s) frame) out)
+          (spoken (choose (listed? (unitOf m) list) true false) (wrap (proto s) (m .tag) (unitOf m ∷ exception (numberOf m) 1)))
+          (l .coilBytes) (l .holdingBytes)
+      unfolding Broadcast Ours
+      unknown-to-the-crate =
+          let b = choose (listed? (unitOf m) list) true false in
+          let held = laid (proto s) (m .tag) (m .body) frame (sent .framed) within in
+          gives
+          (chain-unsupported (held .0) (record { room = room; listed = refl; ours = reached }) l
+          (omega (arith, sent .framed .low, least-two (proto s))) (elim new [ inl q ↦ omega arith | inr q ↦ omega arith ]) (two-unknown _ new))
+          (spoken-line (proto s) b (m .tag) unit _ ∙ own (proto s) b unit (unitOf m) list (m .tag) _ refl reached)
 
     -- ---- a good frame with a value that the driver refuses by code 3, to us or, a write, to all
 

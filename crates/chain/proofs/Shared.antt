@@ -1,8 +1,9 @@
 -- The crate's eight functions among the driver's: each has one number in both, and by it the driver finds no other.
 -- Assumes nothing.
-use mathlib.Core.Logic.{_≢_}
+use mathlib.Core.Logic.{_⊎_, inl, inr, _≢_}
 use mathlib.Core.Path.{_≡_, refl, sym, _∙_, subst}
 use Prim.Native.Nat.{ℕ, _≤_}
+use native.Mathlib.Omega.{arith}
 use Rattle.modbus.specs.Table.{coils, discretes, holdings, inputs, bit, word}
 use Rattle.modbus.specs.Ported.{Ported, reads, one, many, codeOf}
 use Rattle.modbus.specs.Request as driver
@@ -37,8 +38,24 @@ ported-shared n p e fn c = (p, same-fn n fn (asFn p) c (e ∙ sym (as-code p)))
 pub unknown-shared : (n : ℕ) → ((fn : Fn) → n ≢ code fn) → Shared n
 unknown-shared n h fn c = absurd (h fn c)
 
--- the driver has no function but the eight
-pub all-shared : (n : ℕ) → Shared n
-all-shared n (driver.reads t) c = (reads t, refl)
-all-shared n (driver.one k) c = (one k, refl)
-all-shared n (driver.many k) c = (many k, refl)
+-- beside the eight the driver has 22 and 23
+pub all-but-two : (n : ℕ) → n ≢ 22 → n ≢ 23 → Shared n
+all-but-two n h k (driver.reads t) c = (reads t, refl)
+all-but-two n h k (driver.one j) c = (one j, refl)
+all-but-two n h k (driver.many j) c = (many j, refl)
+all-but-two n h k driver.mask c = absurd (h c)
+all-but-two n h k driver.both c = absurd (k c)
+
+-- which the crate does not know
+pub two-unknown : (n : ℕ) → (n ≡ 22) ⊎ (n ≡ 23) → (fn : Ported) → n ≢ codeOf fn
+two-unknown n h fn e = by fn (elim h [ inl q ↦ omega arith | inr q ↦ omega arith ]) e
+  where
+    by : (fn : Ported) → 17 ≤ n → n ≢ codeOf fn
+    by (reads coils) l q = omega arith
+    by (reads discretes) l q = omega arith
+    by (reads holdings) l q = omega arith
+    by (reads inputs) l q = omega arith
+    by (one bit) l q = omega arith
+    by (one word) l q = omega arith
+    by (many bit) l q = omega arith
+    by (many word) l q = omega arith

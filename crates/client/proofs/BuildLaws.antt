@@ -11,7 +11,7 @@ use lib.ListN.{length, getD, take, replicate, length-replicate}
 use Rattle.modbus.specs.Step.{Step, stop, go, _>>=_, _>>_, need, _≤?_}
 use Rattle.modbus.specs.Bytes.{All, two, wordAt}
 use Rattle.modbus.specs.Table.{Kind, bit, word, Tab, coils, discretes, holdings, inputs, kindOf, Fits}
-use Rattle.modbus.specs.Request.{Fn, reads, one, many, code, offered, Ask, read, write, writes, fnOf, mostWritten, Permitted, octets, Pads, pdu, wire, shown}
+use Rattle.modbus.specs.Request.{Fn, reads, one, many, mask, both, code, offered, Ask, read, write, writes, masks, swaps, fnOf, mostWritten, Permitted, octets, Pads, pdu, wire, shown}
 use Rattle.modbus.specs.Paper.{protoOf}
 use Rattle.modbus.specs.Setup.{Setup, proto}
 use Rattle.modbus.specs.Decode.{Valued, lengthy?, valued?, asked, isRead?}
@@ -24,11 +24,11 @@ use Rattle.requests.specs.Judged.{weighed, judged, on?, kindBy}
 use Rattle.requests.specs.declared.Write.{Write}
 use Rattle.requests.specs.declared.Write.the-variants.{Bits, Words}
 use Rattle.requests.specs.declared.Verdict.{Verdict}
-use Rattle.requests.specs.declared.Verdict.the-variants.{Read, Written, Refused, Quiet}
+use Rattle.requests.specs.declared.Verdict.the-variants.{Read, Written, Masked, Exchanged, Refused, Quiet}
 use Rattle.requests.proofs.FineLaws.{went, Fine, fine}
 use Rattle.client.specs.declared.ModbusRequest.{ModbusRequest}
 use Rattle.client.specs.Asking.{Declined, badRequest, orBadRequest, permitted?, everyCell, functionOf, readBy, writeBy, getting, setting, padding, bodyTo, frameTo, generated, laidInto}
-use Rattle.client.specs.Hearing.{failed, roomed, framed, bodySent, manyBody, declining}
+use Rattle.client.specs.Hearing.{failed, roomed, framed, bodySent, manyBody, bothBody, declining}
 use Rattle.client.proofs.LayLaws.{zero-bits}
 
 -- ---- functions have different numbers
@@ -47,6 +47,8 @@ pads (read t s n) = refl
 pads (write k a v) = refl
 pads (writes bit s vs) = (zero-bits (8 * octets bit (length vs) - length vs), simp length-replicate (omega arith))
 pads (writes word s vs) = refl
+pads (masks a x y) = refl
+pads (swaps r n s vs) = refl
 
 -- ---- a body that says what may be asked
 
@@ -73,6 +75,8 @@ Sized (read t s n) = Unit {0}
 Sized (write bit a v) = Unit {0}
 Sized (write word a v) = v < 65536
 Sized (writes k s vs) = All (Fits k) vs
+Sized (masks a x y) = Fits word x × Fits word y
+Sized (swaps r n s vs) = All (Fits word) vs
 
 word-two : (n : ℕ) → n / 256 * 256 + n % 256 ≡ n
 word-two n = div-add-mod' n 256
@@ -81,6 +85,8 @@ pub code-at : (a : Ask) (u : ℕ) (pad : List ℕ) → getD (u ∷ pdu a pad) 1 
 code-at (read t s n) u pad = refl
 code-at (write k a v) u pad = refl
 code-at (writes k s vs) u pad = refl
+code-at (masks a x y) u pad = refl
+code-at (swaps r n s vs) u pad = refl
 
 valued-permitted : (a : Ask) (u : ℕ) (pad : List ℕ) → Sized a → Valued (fnOf a) (u ∷ pdu a pad) → Permitted a
 valued-permitted (read t s n) u pad z v = rw word-two at v
@@ -88,6 +94,9 @@ valued-permitted (write bit a v) u pad z h =
     ⊎-elim {C = v ≤ 1} (λ e. omega arith) (λ e. omega arith) (rw word-two at h)
 valued-permitted (write word a v) u pad z h = z
 valued-permitted (writes k s vs) u pad z h = (rw word-two at (h .0), rw word-two at (h .1 .0), z)
+valued-permitted (masks a x y) u pad z h = z
+valued-permitted (swaps r n s vs) u pad z h =
+    (rw word-two at (h .0 .0), rw word-two at (h .0 .1), rw word-two at (h .1 .0), rw word-two at (h .1 .1 .0), z)
 
 module _ (n u : ℕ) (a : Ask) (pad : List ℕ) (fills : Pads a pad) (sized : Sized a) where
   -- what it then asks is permitted and inside
@@ -161,6 +170,8 @@ declined-bad out s r e q = ap (λ (x : Answer). (x, out)) e ∙ sym (ap (laidInt
 abbrev pub refusing : Verdict → Bool
 refusing (Read q) = false
 refusing (Written w) = false
+refusing (Masked m) = false
+refusing (Exchanged x) = false
 refusing (Refused c) = true
 refusing (Quiet o c) = true
 
@@ -172,6 +183,8 @@ module _ (s : Setup) (b : List ℕ) (bytes : (i : ℕ) → getD b i 0 < 256) (r 
       by (Read q) h = sym (ap failed (h .goes))
       by (Written (Bits c)) h = sym (ap failed (h .goes))
       by (Written (Words c)) h = sym (ap failed (h .goes))
+      by (Masked m) h = sym (ap failed (h .goes))
+      by (Exchanged x) h = sym (ap failed (h .goes))
       by (Refused c) h = sym (ap failed (h .0))
       by (Quiet o c) h = sym (ap failed h)
 
@@ -185,6 +198,8 @@ read-high reg count (reads holdings) h = absurd (omega arith)
 read-high reg count (reads inputs) h = absurd (omega arith)
 read-high reg count (one k) h = refl
 read-high reg count (many k) h = refl
+read-high reg count mask h = refl
+read-high reg count both h = refl
 
 module _ (n func reg count : ℕ) where
   pub getting-high : 4 < func → getting n func reg count ≡ stop badRequest
@@ -208,6 +223,12 @@ write-none reg vs (one bit) a b c d = absurd (a refl)
 write-none reg vs (one word) a b c d = absurd (b refl)
 write-none reg vs (many bit) a b c d = absurd (c refl)
 write-none reg vs (many word) a b c d = absurd (d refl)
+write-none reg [] mask a b c d = refl
+write-none reg (v ∷ []) mask a b c d = refl
+write-none reg (v ∷ w ∷ vs) mask a b c d = refl
+write-none reg [] both a b c d = refl
+write-none reg (v ∷ []) both a b c d = refl
+write-none reg (v ∷ w ∷ vs) both a b c d = refl
 
 pub setting-none : (n func reg : ℕ) (vs : List ℕ) → ¬ (func ≡ 5) → ¬ (func ≡ 6) → ¬ (func ≡ 15) → ¬ (func ≡ 16)
     → setting n func reg vs ≡ stop badRequest
@@ -259,6 +280,8 @@ module _ (to : ModbusRequest) (room : ℕ) where
       known (one word) e = absurd (omega arith)
       known (many bit) e = absurd (omega arith)
       known (many word) e = absurd (omega arith)
+      known mask e = absurd (omega arith)
+      known both e = absurd (omega arith)
 
       unknown : (x : Declined) → functionOf (to .proto) func ≡ stop x → bodySent to body room ≡ stop badRequest
       unknown x e =
@@ -301,6 +324,16 @@ module _ (to : ModbusRequest) (room : ℕ) where
 
   pub ones-unbuilt : (k : Kind) (reg : ℕ) (vs : List ℕ) → ¬ (length vs ≡ 1) → generated to (writeBy reg vs (one k)) room ≡ stop badRequest
   ones-unbuilt k reg vs n = generated-none to _ room (other-values k reg vs n)
+
+  -- values that come with a read, whose data are shown
+  pub both-built : (reg count at n : ℕ) (vs d : List ℕ) → n ≡ length vs → All (Fits word) vs → d ≡ shown word vs
+      → generated to (go (swaps reg count at vs)) room ≡ bodySent to (bothBody to reg count at n d) room
+  both-built reg count at n vs d e p q =
+      generated-body to (swaps reg count at vs) room p
+      ∙ sym (ap₂ (λ (i : ℕ) (x : List ℕ). bodySent to (bothBody to reg count at i x) room) e q)
+
+  pub both-unbuilt : (reg count at : ℕ) (vs : List ℕ) → 121 < length vs → generated to (go (swaps reg count at vs)) room ≡ stop badRequest
+  both-unbuilt reg count at vs h = generated-not to _ room (swaps reg count at vs) refl (λ p. omega (arith, p .3))
 
 -- a coil's value in two bytes
 pub coil-bytes : (v : ℕ) → 255 * v ∷ 0 ∷ [] ≡ two (wire bit v)

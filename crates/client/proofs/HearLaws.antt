@@ -11,7 +11,7 @@ use lib.ListN.{length, getD, take, drop, length-take, length-drop}
 use lib.Seq.{sets, ext-getD, getD-take, length-take-le, take-length}
 use Rattle.modbus.specs.Step.{Step, stop, go, _>>=_, _>>_, need, choose, _≤?_, _≟_, _and?_, same?}
 use Rattle.modbus.specs.Table.{Kind, bit, word, Tab, coils, discretes, holdings, inputs, kindOf}
-use Rattle.modbus.specs.Request.{Fn, reads, one, many, code, Ask, read, write, writes, fnOf, mostRead, octets}
+use Rattle.modbus.specs.Request.{Fn, reads, mask, code, Ask, read, write, writes, masks, swaps, fnOf, mostRead, octets}
 use Rattle.modbus.specs.Storage.{values}
 use Rattle.modbus.specs.Paper.{protoOf}
 use Rattle.modbus.specs.Frame.{tagOf}
@@ -26,17 +26,19 @@ use Rattle.modbus.proofs.RequestLaws.{fn-asked}
 use Rattle.requests.specs.Judged.{weighed, judged, kindBy}
 use Rattle.requests.specs.declared.Cells.{Cells}
 use Rattle.requests.specs.declared.ReadCells.{ReadCells}
+use Rattle.requests.specs.declared.Mask.{Mask}
+use Rattle.requests.specs.declared.Exchange.{Exchange}
 use Rattle.requests.specs.declared.Write.{Write}
 use Rattle.requests.specs.declared.Write.the-variants.{Bits, Words}
 use Rattle.requests.specs.declared.Verdict.{Verdict}
-use Rattle.requests.specs.declared.Verdict.the-variants.{Read, Written, Refused, Quiet}
-use Rattle.requests.proofs.FineLaws.{went, Stores, Fine, FineRead, FineWrite, fine}
+use Rattle.requests.specs.declared.Verdict.the-variants.{Read, Written}
+use Rattle.requests.proofs.FineLaws.{went, Stores, Fine, FineRead, FineWrite, FineMask, FineBoth}
 use Rattle.transports.specs.Opened.{faultOf}
 use Rattle.transports.proofs.AnswerLaws.{number-fault}
 use Rattle.client.specs.declared.Reading.{Reading}
-use Rattle.client.specs.Asking.{Declined, badRequest, notMyReply, silent, declinedBy, orBadRequest, orSilent, everyCell, functionOf, saidBy, sentAs, Reply, shows, excepted, shownCount, Excepts, excepts?, Answers, answers?, answered, heard, mine?, replied, understood, readInto}
-use Rattle.client.specs.Hearing.{readOf, messageIn, Asks, AtMost, heardFrom, repliedTo}
-use Rattle.client.proofs.BuildLaws.{by-step, or-go, or-stop}
+use Rattle.client.specs.Asking.{Declined, badRequest, notMyReply, silent, declinedBy, orBadRequest, orSilent, everyCell, functionOf, saidBy, sentAs, Reply, shows, excepted, shownCount, kindShown, Excepts, excepts?, Brings, Answers, answers?, heldIn, answered, heard, mine?, replied, understood, readInto}
+use Rattle.client.specs.Hearing.{readOf, messageIn, echoed, Showing, Asks, heardFrom, repliedTo}
+use Rattle.client.proofs.BuildLaws.{same-code, by-step, or-go, or-stop}
 
 -- ---- tags
 
@@ -52,15 +54,31 @@ tag-two (suc (suc n)) a b h = refl
 
 -- ---- the echo
 
-pub six-same : (sent b : List ℕ) → 6 ≤ length sent → length b ≡ 6 → ((k : ℕ) → k < 6 → getD b k 0 ≡ getD sent k 0) → b ≡ take 6 sent
-six-same sent b h e same =
-    ext-getD 0 b (take 6 sent) (e ∙ sym (length-take-le 6 sent h)) (λ i k. same i (omega arith) ∙ sym (getD-take 6 sent i 0 (omega arith)))
+module _ (n : ℕ) (sent b : List ℕ) where
+  pub echo-same : n ≤ length sent → length b ≡ n → ((k : ℕ) → k < n → getD b k 0 ≡ getD sent k 0) → b ≡ take n sent
+  echo-same h e same =
+      ext-getD 0 b (take n sent) (e ∙ sym (length-take-le n sent h)) (λ i k. same i (omega arith) ∙ sym (getD-take n sent i 0 (omega arith)))
 
-pub six-length : (sent b : List ℕ) → 6 ≤ length sent → b ≡ take 6 sent → length b ≡ 6
-six-length sent b h e = ap length e ∙ length-take-le 6 sent h
+  pub echo-length : n ≤ length sent → b ≡ take n sent → length b ≡ n
+  echo-length h e = ap length e ∙ length-take-le n sent h
 
-pub six-at : (sent b : List ℕ) (i : ℕ) → b ≡ take 6 sent → i < 6 → getD b i 0 ≡ getD sent i 0
-six-at sent b i e h = ap (λ (l : List ℕ). getD l i 0) e ∙ getD-take 6 sent i 0 h
+  pub echo-at : (i : ℕ) → b ≡ take n sent → i < n → getD b i 0 ≡ getD sent i 0
+  echo-at i e h = ap (λ (l : List ℕ). getD l i 0) e ∙ getD-take n sent i 0 h
+
+-- the function's number tells how long it is
+pub echo-mask : (a : Ask) → fnOf a ≡ mask → 8 ≡ echoed a
+echo-mask (read t s n) e = let z : _≡_ {A = ℕ} 0 1 = cc in absurd (omega arith)
+echo-mask (write k a v) e = let z : _≡_ {A = ℕ} 0 1 = cc in absurd (omega arith)
+echo-mask (writes k s vs) e = let z : _≡_ {A = ℕ} 0 1 = cc in absurd (omega arith)
+echo-mask (masks a x y) e = refl
+echo-mask (swaps r n s vs) e = let z : _≡_ {A = ℕ} 0 1 = cc in absurd (omega arith)
+
+pub echo-other : (a : Ask) → ¬ (code (fnOf a) ≡ 22) → 6 ≡ echoed a
+echo-other (read t s n) h = refl
+echo-other (write k a v) h = refl
+echo-other (writes k s vs) h = refl
+echo-other (masks a x y) h = absurd (h refl)
+echo-other (swaps r n s vs) h = refl
 
 -- ---- numbers out
 
@@ -78,14 +96,7 @@ module _ (out : List ℕ) where
   told-shown s r vs after n e q z w =
       ap₂ (λ (y : Reading) (l : List ℕ). (y, l)) (q ∙ ap (λ (i : ℕ). readOf i 0 0) z) w ∙ sym (ap (readInto out) e)
 
--- ---- the answer to a read
-
--- the function's number tells the kind
-pub kind-lt : (t : Tab) (function : ℕ) → function ≡ code (reads t) → kindOf t ≡ kindBy (ltb function 3)
-kind-lt coils function e = rw e refl
-kind-lt discretes function e = rw e refl
-kind-lt holdings function e = rw e refl
-kind-lt inputs function e = rw e refl
+-- ---- an answer that brings cells
 
 pub read-2000 : (k : Kind) (n : ℕ) → n ≤ mostRead k → n ≤ 2000
 read-2000 bit n h = h
@@ -95,22 +106,51 @@ pub read-250 : (k : Kind) (n : ℕ) → n ≤ mostRead k → octets k n ≤ 250
 read-250 bit n h = omega arith
 read-250 word n h = omega arith
 
-module _ (t : Tab) (s count : ℕ) (sent b : List ℕ) (function : ℕ) (f : function ≡ code (reads t)) (k : Kind) (e : kindOf t ≡ k)
-    (n : ℕ) (o : n ≡ octets k count) where
-  abbrev Headed : Type 0
-  Headed = (length b ≡ 3 + n) × ((getD b 1 0 ≡ function) × (getD b 2 0 ≡ n))
+module _ (sent b : List ℕ) where
+  answers-brings : (a : Ask) → IsRead (fnOf a) → Answers a sent b → Brings (code (fnOf a)) (octets (kindShown a) (shownCount a)) b
+  answers-brings (read t s n) i h = h
+  answers-brings (write k a v) i h = absurd i
+  answers-brings (writes k s vs) i h = absurd i
+  answers-brings (masks a x y) i h = absurd i
+  answers-brings (swaps r n s vs) i h = h
 
-  headed-answers : Headed → Answers (read t s count) sent b
-  headed-answers h = rw e (h .0 ∙ ap (λ (i : ℕ). 3 + i) o, (h .1 .0 ∙ f, h .1 .1 ∙ o))
+  brings-answers : (a : Ask) → IsRead (fnOf a) → Brings (code (fnOf a)) (octets (kindShown a) (shownCount a)) b → Answers a sent b
+  brings-answers (read t s n) i h = h
+  brings-answers (write k a v) i h = absurd i
+  brings-answers (writes k s vs) i h = absurd i
+  brings-answers (masks a x y) i h = absurd i
+  brings-answers (swaps r n s vs) i h = h
 
-  answers-headed : Answers (read t s count) sent b → Headed
-  answers-headed h = let g = rw e at h in (g .0 ∙ ap (λ (i : ℕ). 3 + i) (sym o), (g .1 .0 ∙ sym f, g .1 .1 ∙ sym o))
+  brings-held : (a : Ask) → IsRead (fnOf a) → heldIn a b ≡ values (kindShown a) (shownCount a) (drop 3 b)
+  brings-held (read t s n) i = refl
+  brings-held (write k a v) i = absurd i
+  brings-held (writes k s vs) i = absurd i
+  brings-held (masks a x y) i = absurd i
+  brings-held (swaps r n s vs) i = refl
 
-  pub read-unanswered : ¬ Headed → answered (read t s count) sent b ≡ stop notMyReply
-  read-unanswered h = fail _ _ _ (λ g. h (answers-headed g))
+  module _ (a : Ask) (function count : ℕ) (w : Showing a function count) (k : Kind) (e : kindShown a ≡ k) (n : ℕ) (o : n ≡ octets k count) where
+    size : n ≡ octets (kindShown a) (shownCount a)
+    size = o ∙ ap₂ octets (sym e) (w .counted)
 
-  pub read-answered : Headed → answered (read t s count) sent b ≡ go (shows (values k count (drop 3 b)))
-  read-answered h = pass _ _ _ (headed-answers h) ∙ ap (λ (j : Kind). go (shows (values j count (drop 3 b)))) e
+    pub read-unanswered : ¬ Brings function n b → answered a sent b ≡ stop notMyReply
+    read-unanswered h = fail _ _ _ (λ g. h (rw (w .numbered, size) (answers-brings a (w .reads) g)))
+
+    pub read-answered : Brings function n b → answered a sent b ≡ go (shows (values k count (drop 3 b)))
+    read-answered h =
+        pass _ _ _ (brings-answers a (w .reads) (rw (w .numbered, size) at h))
+        ∙ ap (λ (l : List ℕ). go (shows l))
+        (brings-held a (w .reads) ∙ ap₂ (λ (j : Kind) (i : ℕ). values j i (drop 3 b)) e (sym (w .counted)))
+
+-- the function's number tells the kind
+pub kind-lt : (a : Ask) (function count : ℕ) → Showing a function count → kindShown a ≡ kindBy (ltb function 3)
+kind-lt (read coils s n) function count w = rw (w .numbered) refl
+kind-lt (read discretes s n) function count w = rw (w .numbered) refl
+kind-lt (read holdings s n) function count w = rw (w .numbered) refl
+kind-lt (read inputs s n) function count w = rw (w .numbered) refl
+kind-lt (write k a v) function count w = absurd (w .reads)
+kind-lt (writes k s vs) function count w = absurd (w .reads)
+kind-lt (masks a x y) function count w = absurd (w .reads)
+kind-lt (swaps r n s vs) function count w = rw (w .numbered) refl
 
 pub values-length : (k : Kind) (n : ℕ) (d : List ℕ) → n ≡ length (values k n d)
 values-length bit n d = sym (length-part _ 0 n)
@@ -119,28 +159,26 @@ values-length word n d = sym (length-part _ 0 n)
 -- ---- the body of a reply
 
 module _ (count : ℕ) (sent : List ℕ) where
-  pub read-of : (a : Ask) → Asks a count sent → 0 < count → (t : Tab) × (getD sent 1 0 ≡ code (reads t)) × (count ≤ mostRead (kindOf t))
-  read-of (read t s n) q h = (t, q .numbered, rw (q .counted) (q .most))
-  read-of (write k a v) q h = absurd (omega (arith, q .counted))
-  read-of (writes k s vs) q h = absurd (omega (arith, q .counted))
+  pub shown-of : (a : Ask) → Asks a count sent → 0 < count → Showing a (getD sent 1 0) count
+  shown-of (read t s n) q h = record { reads = tt; numbered = q .numbered; counted = q .counted; most = q .most }
+  shown-of (write k a v) q h = absurd (omega (arith, q .counted))
+  shown-of (writes k s vs) q h = absurd (omega (arith, q .counted))
+  shown-of (masks a x y) q h = absurd (omega (arith, q .counted))
+  shown-of (swaps r n s vs) q h = record { reads = tt; numbered = q .numbered; counted = q .counted; most = q .most }
 
-  module _ (b out : List ℕ) (r : Reading) (after : List ℕ) where
-    pub weigh-read : (a : Ask) → Asks a count sent → 0 < count
-        → ((t : Tab) (s : ℕ) (l : List ℕ) → getD sent 1 0 ≡ code (reads t) → _≡_ {A = Reading × List ℕ} (r, after) (readInto out (answered (read t s count) l b)))
-        → _≡_ {A = Reading × List ℕ} (r, after) (readInto out (answered a sent b))
-    weigh-read (read t s n) q h f = subst (λ (i : ℕ). _≡_ {A = Reading × List ℕ} (r, after) (readInto out (answered (read t s i) sent b))) (q .counted) (f t s sent (q .numbered))
-    weigh-read (write k a v) q h f = absurd (omega (arith, q .counted))
-    weigh-read (writes k s vs) q h f = absurd (omega (arith, q .counted))
-
-  pub weigh-echo : (a : Ask) (b : List ℕ) → Asks a count sent → ¬ (0 < count) → b ≡ take 6 sent → answered a sent b ≡ go (shows [])
+  pub weigh-echo : (a : Ask) (b : List ℕ) → Asks a count sent → ¬ (0 < count) → b ≡ take (echoed a) sent → answered a sent b ≡ go (shows [])
   weigh-echo (read t s n) b q h e = absurd (omega (arith, h, q .some tt))
   weigh-echo (write k a v) b q h e = pass _ _ _ e
   weigh-echo (writes k s vs) b q h e = pass _ _ _ e
+  weigh-echo (masks a x y) b q h e = pass _ _ _ e
+  weigh-echo (swaps r n s vs) b q h e = absurd (omega (arith, h, q .some tt))
 
-  pub weigh-other : (a : Ask) (b : List ℕ) → Asks a count sent → ¬ (0 < count) → ¬ (b ≡ take 6 sent) → answered a sent b ≡ stop notMyReply
+  pub weigh-other : (a : Ask) (b : List ℕ) → Asks a count sent → ¬ (0 < count) → ¬ (b ≡ take (echoed a) sent) → answered a sent b ≡ stop notMyReply
   weigh-other (read t s n) b q h e = absurd (omega (arith, h, q .some tt))
   weigh-other (write k a v) b q h e = fail _ _ _ e
   weigh-other (writes k s vs) b q h e = fail _ _ _ e
+  weigh-other (masks a x y) b q h e = fail _ _ _ e
+  weigh-other (swaps r n s vs) b q h e = absurd (omega (arith, h, q .some tt))
 
 -- of the unit that was asked, and no exception
 module _ (a : Ask) (sent b : List ℕ) where
@@ -218,39 +256,69 @@ module _ (n : ℕ) (m : Message) where
     pub replied-unsaid : (w : Verdict) → weighed (everyCell n) false (m .body) ≡ stop w → repliedTo n m r room ≡ stop badRequest
     replied-unsaid w e = halt _ _ (said-stops w e)
 
--- what a verdict on it tells
+-- ---- what a verdict tells
+
+-- the body says a request, an answer to which shows so many values
+pub record Said (n : ℕ) (b : List ℕ) (count : ℕ) : Type 0 where
+  pub ask : Ask
+  pub asks : Asks ask count b
+  pub goes : weighed (everyCell n) false b ≡ go ask
+
+-- a write of values shows none, and repeats six bytes
+Mute : Ask → Type 0
+Mute a = (0 ≡ shownCount a) × (IsRead (fnOf a) → ⊥) × (echoed a ≡ 6)
+
+stores-mute : (k : Kind) (s : ℕ) (vs : List ℕ) (a : Ask) → Stores k s vs a → Mute a
+unfolding Mute
+stores-mute k s vs a (inl (v, e, w)) = subst Mute (sym e) (refl, (λ i. i), refl)
+stores-mute k s vs a (inr e) = subst Mute (sym e) (refl, (λ i. i), refl)
+
 module _ (n : ℕ) (b : List ℕ) where
-  pub asks-read : (q : ReadCells) (h : FineRead (everyCell n) false b q) → Asks (read (h .tab) (q .address) (q .count)) (q .count) b
-  asks-read q h =
-      record { counted = refl; numbered = h .numbered; some = λ _. h .some; most = h .most; whole = omega (arith, h .whole) }
-
-  pub asks-written : (k : Kind) (c : Cells) (h : FineWrite k (everyCell n) false b c) → Asks (asked (h .fn) b) 0 b
-  asks-written k c h =
+  pub read-said : (q : ReadCells) → FineRead (everyCell n) false b q → Said n b (q .count)
+  read-said q h =
       record {
-        counted = counted (asked (h .fn) b) (h .stores);
-        numbered = h .numbered ∙ ap code (sym (fn-asked (h .fn) b));
-        some = λ i. absurd (unread (asked (h .fn) b) (h .stores) i);
-        most = most (asked (h .fn) b) (h .stores);
-        whole = h .whole;
+        ask = read (h .tab) (q .address) (q .count);
+        asks = record { counted = refl; numbered = h .numbered; some = λ _. h .some; most = h .most; whole = omega (arith, h .whole); repeats = omega (arith, h .whole) };
+        goes = h .goes;
       }
-    where
-      counted : {vs : List ℕ} (a : Ask) → Stores k (c .address) vs a → 0 ≡ shownCount a
-      counted (read t s n) (inl (v, e, w)) = let z : _≡_ {A = ℕ} 0 1 = cc in absurd (omega arith)
-      counted (read t s n) (inr e) = let z : _≡_ {A = ℕ} 0 1 = cc in absurd (omega arith)
-      counted (write j a v) s = refl
-      counted (writes j a vs) s = refl
 
-      unread : {vs : List ℕ} (a : Ask) → Stores k (c .address) vs a → IsRead (fnOf a) → ⊥
-      unread (read t s n) (inl (v, e, w)) i = let z : _≡_ {A = ℕ} 0 1 = cc in omega arith
-      unread (read t s n) (inr e) i = let z : _≡_ {A = ℕ} 0 1 = cc in omega arith
-      unread (write j a v) s i = i
-      unread (writes j a vs) s i = i
+  stores-said : (k : Kind) (c : Cells) → FineWrite k (everyCell n) false b c → Said n b 0
+  unfolding Mute
+  stores-said k c h =
+      let m = stores-mute k _ _ (asked (h .fn) b) (h .stores) in
+      record {
+        ask = asked (h .fn) b;
+        asks =
+            record {
+              counted = m .0;
+              numbered = h .numbered ∙ ap code (sym (fn-asked (h .fn) b));
+              some = λ i. absurd (m .1 i);
+              most = omega arith;
+              whole = h .whole;
+              repeats = omega (arith, m .2, h .whole);
+            };
+        goes = h .goes;
+      }
 
-      most : {vs : List ℕ} (a : Ask) → Stores k (c .address) vs a → AtMost a
-      most (read t s n) (inl (v, e, w)) = let z : _≡_ {A = ℕ} 0 1 = cc in absurd (omega arith)
-      most (read t s n) (inr e) = let z : _≡_ {A = ℕ} 0 1 = cc in absurd (omega arith)
-      most (write j a v) s = tt
-      most (writes j a vs) s = tt
+  pub written-said : (w : Write) → Fine (everyCell n) false b (Written w) → Said n b 0
+  written-said (Bits c) h = stores-said bit c h
+  written-said (Words c) h = stores-said word c h
+
+  pub masked-said : (m : Mask) → FineMask (everyCell n) false b m → Said n b 0
+  masked-said m h =
+      record {
+        ask = asked mask b;
+        asks = record { counted = refl; numbered = h .numbered; some = λ i. absurd i; most = omega arith; whole = omega (arith, h .whole); repeats = omega (arith, h .whole) };
+        goes = h .goes;
+      }
+
+  pub both-said : (x : Exchange) → FineBoth (everyCell n) false b x → Said n b (x .«read_count»)
+  both-said x h =
+      record {
+        ask = swaps (x .«read_address») (x .«read_count») (x .«write_address») (values word (x .«write_count») (drop 11 b));
+        asks = record { counted = refl; numbered = h .numbered; some = λ _. h .some; most = h .most; whole = omega (arith, h .held); repeats = omega (arith, h .held) };
+        goes = h .goes;
+      }
 
 -- ---- the frame of a request
 
@@ -284,13 +352,3 @@ tags-same n a b c d h e =
 -- all behind the head
 pub behind-head : (b : List ℕ) → take (length b - 3) (drop 3 b) ≡ drop 3 b
 behind-head b = ap (λ (n : ℕ). take n (drop 3 b)) (sym (length-drop 3 b)) ∙ take-length (drop 3 b)
-
--- a write that was said, whatever its kind
-pub record Said (n : ℕ) (b : List ℕ) : Type 0 where
-  pub ask : Ask
-  pub asks : Asks ask 0 b
-  pub goes : weighed (everyCell n) false b ≡ go ask
-
-pub written-said : (n : ℕ) (b : List ℕ) (w : Write) → Fine (everyCell n) false b (Written w) → Said n b
-written-said n b (Bits c) h = record { ask = asked (h .fn) b; asks = asks-written n b bit c h; goes = h .goes }
-written-said n b (Words c) h = record { ask = asked (h .fn) b; asks = asks-written n b word c h; goes = h .goes }

@@ -14,6 +14,10 @@ use Rattle.client.proofs.ModbusRequest.generate_get.Kinds as generate-g
 use Rattle.client.proofs.ModbusRequest.generate_get.Reads as generate-get-reads
 use Rattle.client.proofs.ModbusRequest.generate_set.Kinds as generate-set-kinds
 use Rattle.client.proofs.ModbusRequest.generate_set.Reads as generate-set-reads
+use Rattle.client.proofs.ModbusRequest.generate_mask.Kinds as generate-mask-kinds
+use Rattle.client.proofs.ModbusRequest.generate_mask.Reads as generate-mask-reads
+use Rattle.client.proofs.ModbusRequest.generate_set_get.Kinds as generate-set-get-kinds
+use Rattle.client.proofs.ModbusRequest.generate_set_get.Reads as generate-set-get-reads
 use Rattle.client.proofs.parse_response.Kinds as parse-response-kinds
 use Rattle.client.proofs.parse_response.Reads as parse-response-reads
 
@@ -35,6 +39,20 @@ generate-set κs a x y u v p q =
     let e = p ∙ sym q in (
       ap (λ (t : Answer × List ℕ). t .0) e,
       ap (λ (t : Answer × List ℕ). (u .0, (u .1 .0, (u .1 .1 .0, (u .1 .1 .1 .0, (t .1, u .1 .1 .1 .1 .1)))))) e,
+    )
+
+pub generate-mask : Unique 1 generate-mask-kinds.ps generate-mask-kinds.r generate-mask-reads.Post
+generate-mask κs a x y u v p q =
+    let e = p ∙ sym q in (
+      ap (λ (t : Answer × List ℕ). t .0) e,
+      ap (λ (t : Answer × List ℕ). (u .0, (u .1 .0, (u .1 .1 .0, (u .1 .1 .1 .0, (t .1, u .1 .1 .1 .1 .1)))))) e,
+    )
+
+pub generate-set-get : Unique 2 generate-set-get-kinds.ps generate-set-get-kinds.r generate-set-get-reads.Post
+generate-set-get κs a x y u v p q =
+    let e = p ∙ sym q in (
+      ap (λ (t : Answer × List ℕ). t .0) e,
+      ap (λ (t : Answer × List ℕ). (u .0, (u .1 .0, (u .1 .1 .0, (u .1 .1 .1 .0, (u .1 .1 .1 .1 .0, (t .1, u .1 .1 .1 .1 .1 .1))))))) e,
     )
 
 pub parse-response : Unique 3 parse-response-kinds.ps parse-response-kinds.r parse-response-reads.Post

@@ -1,4 +1,4 @@
--- The asking side (document 02, 2026-02): the requests that can be built and their frames; the request that a frame says; and what a reply to it
+-- The asking side (document 02, 2026-02 and 2026-05): the requests that can be built and their frames; the request that a frame says; and what a reply to it
 -- says. Requests, answers and frames are those of Request, Decode and Frame: there is no second encoding.
 -- Assumes nothing.
 use mathlib.Core.Path.{_≡_}
@@ -9,7 +9,7 @@ use lib.Seq.{sets}
 use Rattle.modbus.specs.Step.{Step, stop, go, _>>=_, _>>_, need, choose, _≤?_, _≟_, _and?_, same?}
 use Rattle.modbus.specs.Bytes.{All}
 use Rattle.modbus.specs.Table.{Kind, bit, word, kindOf, Fits}
-use Rattle.modbus.specs.Request.{Fn, reads, one, many, code, offered, Ask, read, write, writes, fnOf, mostRead, mostWritten, Permitted, octets, pdu}
+use Rattle.modbus.specs.Request.{Fn, reads, one, many, mask, both, code, offered, Ask, read, write, writes, masks, swaps, fnOf, mostRead, mostWritten, mostSwapped, Permitted, octets, pdu}
 use Rattle.modbus.specs.Storage.{values}
 use Rattle.modbus.specs.Paper.{protoOf}
 use Rattle.modbus.specs.Setup.{Setup}
@@ -56,10 +56,22 @@ three? (yes p) (yes q) (no r) = no (λ h. r (h .2))
 three? (yes p) (no q) r = no (λ h. q (h .1))
 three? (no p) q r = no (λ h. p (h .0))
 
+unfoldable pub five? : {P Q R S T : Type 0} → Dec P → Dec Q → Dec (R × S × T) → Dec (P × Q × R × S × T)
+five? (yes p) (yes q) (yes r) = yes (p, q, r .0, r .1, r .2)
+five? (yes p) (yes q) (no r) = no (λ h. r (h .2, h .3, h .4))
+five? (yes p) (no q) r = no (λ h. q (h .1))
+five? (no p) q r = no (λ h. p (h .0))
+
+-- so many values, from 1 on, each of which fits
+abbrev pub countFit? : (k : Kind) (n : ℕ) (vs : List ℕ) → Dec ((1 ≤ length vs) × (length vs ≤ n) × All (Fits k) vs)
+countFit? k n vs = three? (1 ≤? length vs) (length vs ≤? n) (allFit? k vs)
+
 unfoldable pub permitted? : (a : Ask) → Dec (Permitted a)
 permitted? (read t s n) = (1 ≤? n) and? (n ≤? mostRead (kindOf t))
 permitted? (write k a v) = fits? k v
-permitted? (writes k s vs) = three? (1 ≤? length vs) (length vs ≤? mostWritten k) (allFit? k vs)
+permitted? (writes k s vs) = countFit? k (mostWritten k) vs
+permitted? (masks a x y) = fits? word x and? fits? word y
+permitted? (swaps r n s vs) = five? (1 ≤? n) (n ≤? mostRead word) (countFit? word mostSwapped vs)
 
 -- a unit with all the cells that can be named
 abbrev pub everyCell : ℕ → Setup
@@ -74,11 +86,13 @@ asker tr u n = record { «tr_id» = tr; «unit_id» = u; proto = n }
 abbrev pub functionOf : ℕ → ℕ → Step Declined Fn
 functionOf n func = find code badRequest func (offered (protoOf n))
 
--- functions 1 to 4 read
+-- functions 1 to 4 read; 22 and 23 have builders of their own
 abbrev pub readBy : ℕ → ℕ → Fn → Step Declined Ask
 readBy reg count (reads t) = go (read t reg count)
 readBy reg count (one k) = stop badRequest
 readBy reg count (many k) = stop badRequest
+readBy reg count mask = stop badRequest
+readBy reg count both = stop badRequest
 
 -- functions 5 and 6 write exactly one value, 15 and 16 as many as there are
 abbrev pub writeBy : ℕ → List ℕ → Fn → Step Declined Ask
@@ -87,6 +101,8 @@ writeBy reg [] (one k) = stop badRequest
 writeBy reg (v ∷ []) (one k) = go (write k reg v)
 writeBy reg (v ∷ w ∷ vs) (one k) = stop badRequest
 writeBy reg vs (many k) = go (writes k reg vs)
+writeBy reg vs mask = stop badRequest
+writeBy reg vs both = stop badRequest
 
 unfoldable pub getting : ℕ → ℕ → ℕ → ℕ → Step Declined Ask
 getting n func reg count = functionOf n func >>= readBy reg count
@@ -100,6 +116,8 @@ padding (read t s n) = []
 padding (write k a v) = []
 padding (writes bit s vs) = replicate (8 * octets bit (length vs) - length vs) 0
 padding (writes word s vs) = []
+padding (masks a x y) = []
+padding (swaps r n s vs) = []
 
 -- the body of a request to a unit, and its frame, in which TCP has the transaction number
 abbrev pub bodyTo : ModbusRequest → Ask → List ℕ
@@ -136,7 +154,7 @@ sentAs n f = orBadRequest (unwrap (protoOf n) f) >>= saidBy n
 
 -- ---- reading
 
--- what a reply says: the values of the cells read, none after a write; or the code of an exception
+-- what a reply says: the values of the cells read, none after a write that reads none; or the code of an exception
 pub data Reply : Type 0 where
   shows : List ℕ → Reply
   excepted : ℕ → Reply
@@ -146,6 +164,16 @@ abbrev pub shownCount : Ask → ℕ
 shownCount (read t s n) = n
 shownCount (write k a v) = 0
 shownCount (writes k s vs) = 0
+shownCount (masks a x y) = 0
+shownCount (swaps r n s vs) = n
+
+-- and of which kind they are
+abbrev pub kindShown : Ask → Kind
+kindShown (read t s n) = kindOf t
+kindShown (write k a v) = k
+kindShown (writes k s vs) = k
+kindShown (masks a x y) = word
+kindShown (swaps r n s vs) = word
 
 -- an exception to it (APP 7): three bytes, the function's number with its highest bit set, and a code from 1 on
 abbrev pub Excepts : Ask → List ℕ → Type 0
@@ -154,25 +182,35 @@ Excepts a b = (length b ≡ 3) × ((getD b 1 0 ≡ code (fnOf a) + 128) × (1 �
 unfoldable pub excepts? : (a : Ask) (b : List ℕ) → Dec (Excepts a b)
 excepts? a b = (length b ≟ 3) and? (getD b 1 0 ≟ code (fnOf a) + 128) and? (1 ≤? getD b 2 0)
 
--- an answer to it: of a read the function, the byte count that the cells asked take, and as many bytes; of a write the first six bytes of its
--- body again
+-- a body that brings cells: the function, the byte count that the cells asked take, and as many bytes
+abbrev pub Brings : ℕ → ℕ → List ℕ → Type 0
+Brings function n b = (length b ≡ 3 + n) × ((getD b 1 0 ≡ function) × (getD b 2 0 ≡ n))
+
+abbrev pub brings? : (function n : ℕ) (b : List ℕ) → Dec (Brings function n b)
+brings? function n b = (length b ≟ 3 + n) and? (getD b 1 0 ≟ function) and? (getD b 2 0 ≟ n)
+
+-- an answer to it: of a read, and of a write and read, the cells; of a write the first six bytes of its body again, of a mask write its eight
 abbrev pub Answers : Ask → List ℕ → List ℕ → Type 0
-Answers (read t s n) sent b =
-    (length b ≡ 3 + octets (kindOf t) n) × ((getD b 1 0 ≡ code (reads t)) × (getD b 2 0 ≡ octets (kindOf t) n))
+Answers (read t s n) sent b = Brings (code (reads t)) (octets (kindOf t) n) b
 Answers (write k a v) sent b = b ≡ take 6 sent
 Answers (writes k s vs) sent b = b ≡ take 6 sent
+Answers (masks a x y) sent b = b ≡ take 8 sent
+Answers (swaps r n s vs) sent b = Brings (code both) (octets word n) b
 
 unfoldable pub answers? : (a : Ask) (sent b : List ℕ) → Dec (Answers a sent b)
-answers? (read t s n) sent b =
-    (length b ≟ 3 + octets (kindOf t) n) and? (getD b 1 0 ≟ code (reads t)) and? (getD b 2 0 ≟ octets (kindOf t) n)
+answers? (read t s n) sent b = brings? (code (reads t)) (octets (kindOf t) n) b
 answers? (write k a v) sent b = same? b (take 6 sent)
 answers? (writes k s vs) sent b = same? b (take 6 sent)
+answers? (masks a x y) sent b = same? b (take 8 sent)
+answers? (swaps r n s vs) sent b = brings? (code both) (octets word n) b
 
 -- the values that an answer holds; pad bits are not looked at
 abbrev pub heldIn : Ask → List ℕ → List ℕ
 heldIn (read t s n) b = values (kindOf t) n (drop 3 b)
 heldIn (write k a v) b = []
 heldIn (writes k s vs) b = []
+heldIn (masks a x y) b = []
+heldIn (swaps r n s vs) b = values word n (drop 3 b)
 
 abbrev pub answered : Ask → List ℕ → List ℕ → Step Declined Reply
 answered a sent b = need (answers? a sent b) notMyReply >> go (shows (heldIn a b))

@@ -3,12 +3,11 @@
 use mathlib.Core.Bool.{Bool, true, false}
 use mathlib.Core.Path.{_≡_}
 use mathlib.Core.List.{List, _∷_, _++_}
-use Prim.Native.Nat.{ℕ, _≤_}
+use Prim.Native.Nat.{ℕ, _*_, _≤_}
 use lib.ListN.{length, getD}
 use Rattle.modbus.specs.Step.{Step, stop, go, _>>=_, _>>_, need, _≤?_, _≟_}
 use Rattle.modbus.specs.Bytes.{two}
-use Rattle.modbus.specs.Table.{kindOf}
-use Rattle.modbus.specs.Request.{code, Ask, read, write, writes, fnOf, mostRead}
+use Rattle.modbus.specs.Request.{both, code, Ask, read, write, writes, masks, swaps, fnOf, mostRead}
 use Rattle.modbus.specs.Paper.{protoOf}
 use Rattle.modbus.specs.Frame.{wrap, tagOf}
 use Rattle.modbus.specs.Decode.{Message, noRoom, IsRead}
@@ -16,7 +15,7 @@ use Rattle.modbus.specs.declared.Answer.{Answer}
 use Rattle.requests.specs.Judged.{weighed}
 use Rattle.client.specs.declared.ModbusRequest.{ModbusRequest}
 use Rattle.client.specs.declared.Reading.{Reading}
-use Rattle.client.specs.Asking.{Declined, badRequest, notMyReply, silent, orBadRequest, everyCell, tagTo, Reply, saidBy, shownCount, heard, replied}
+use Rattle.client.specs.Asking.{Declined, badRequest, notMyReply, silent, orBadRequest, everyCell, tagTo, Reply, saidBy, shownCount, kindShown, heard, replied}
 
 abbrev pub declining : ℕ → Answer
 declining k = record { value = 0; kind = k }
@@ -48,25 +47,39 @@ bodySent to b room = do
 abbrev pub manyBody : ModbusRequest → ℕ → ℕ → ℕ → ℕ → List ℕ → List ℕ
 manyBody to func reg n octets d = to .«unit_id» ∷ func ∷ two reg ++ two n ++ (octets ∷ d)
 
+-- and of one that comes with a read of so many holdings
+abbrev pub bothBody : ModbusRequest → ℕ → ℕ → ℕ → ℕ → List ℕ → List ℕ
+bothBody to reg count at n d = to .«unit_id» ∷ code both ∷ two reg ++ two count ++ two at ++ two n ++ ((2 * n) ∷ d)
+
 -- ---- reading
 
 -- a request's frame, opened to this body
 abbrev pub messageIn : ℕ → List ℕ → List ℕ → Message
 messageIn n f b = record { tag = tagOf (protoOf n) (getD f 0 0) (getD f 1 0); body = b }
 
--- a read has its table's bound
-abbrev pub AtMost : Ask → Type 0
-AtMost (read t s n) = n ≤ mostRead (kindOf t)
-AtMost (write k a v) = Unit {0}
-AtMost (writes k s vs) = Unit {0}
+-- how many bytes of its body the answer to a write repeats
+abbrev pub echoed : Ask → ℕ
+echoed (read t s n) = 6
+echoed (write k a v) = 6
+echoed (writes k s vs) = 6
+echoed (masks a x y) = 8
+echoed (swaps r n s vs) = 6
+
+-- an answer to it brings so many cells, behind this function
+pub record Showing (a : Ask) (function count : ℕ) : Type 0 where
+  pub reads : IsRead (fnOf a)
+  pub numbered : function ≡ code (fnOf a)
+  pub counted : count ≡ shownCount a
+  pub most : count ≤ mostRead (kindShown a)
 
 -- the body asks this, and an answer shows so many values
 pub record Asks (a : Ask) (count : ℕ) (sent : List ℕ) : Type 0 where
   pub counted : count ≡ shownCount a
   pub numbered : getD sent 1 0 ≡ code (fnOf a)
   pub some : IsRead (fnOf a) → 1 ≤ count
-  pub most : AtMost a
+  pub most : count ≤ mostRead (kindShown a)
   pub whole : 6 ≤ length sent
+  pub repeats : echoed a ≤ length sent
 
 -- the body of a reply whose frame is right, and of the same transaction
 abbrev pub heardFrom : Ask → List ℕ → List ℕ → Step Declined Reply

@@ -13,7 +13,7 @@ use transports::start_of;
 ghost use mathlib.Core.Bool.{true, false};
 ghost use mathlib.Core.Path.{_≡_};
 ghost use mathlib.Core.List.{_++_};
-ghost use Prim.Native.Nat.{ℕ, _+_, _≤_, _<_};
+ghost use Prim.Native.Nat.{ℕ, _+_, _*_, _≤_, _<_};
 ghost use lib.ListN.{length, take, drop};
 ghost use Rattle.modbus.specs.Step.{choose, _≤?_, _and?_};
 ghost use Rattle.modbus.specs.Request.{code, one, many, mostWritten};
@@ -21,7 +21,7 @@ ghost use Rattle.modbus.specs.Paper.{protoOf};
 ghost use Rattle.modbus.specs.Frame.{startOf};
 ghost use Rattle.requests.specs.Judged.{weighed, kindBy};
 ghost use Rattle.client.specs.Asking.{everyCell, allFit?, writeBy, generated, laidInto};
-ghost use Rattle.client.specs.Hearing.{failed, roomed, framed, bodySent, manyBody};
+ghost use Rattle.client.specs.Hearing.{failed, roomed, framed, bodySent, manyBody, bothBody};
 
 // Whether a body says no request that may be served, whatever the unit.
 fn unasked(body: &[u8]) -> bool
@@ -30,6 +30,8 @@ fn unasked(body: &[u8]) -> bool
     match judge(body, false, 65536, 65536, 65536, 65536) {
         Verdict::Read(_) => false,
         Verdict::Written(_) => false,
+        Verdict::Masked(_) => false,
+        Verdict::Exchanged(_) => false,
         Verdict::Refused(_) => true,
         Verdict::Quiet(_, _) => true,
     }
@@ -187,6 +189,36 @@ fn send_many(
         (reg % 256) as u8,
         (n / 256) as u8,
         (n % 256) as u8,
+        octets as u8,
+    ];
+    send(to, &head, &data[..octets], request)
+}
+
+// Function 23: the holdings to read, those to write, and the values, which stand in the front of the data.
+pub(crate) fn send_both(
+    to: ModbusRequest,
+    reg: u16,
+    count: u16,
+    write_reg: u16,
+    n: usize,
+    data: &[u8],
+    request: &mut [u8],
+) -> Answer
+    requires { ⌜ (n ≤ 121) × (2 * n ≤ length (now «data»)) ⌝ }
+    ensures { λ r. ⌜ (r, now (request .exit)) ≡ laidInto (now (request .entry)) (bodySent to (bothBody to reg count «write_reg» n (take (2 * n) (now («data» .entry)))) (length (now (request .entry)))) ⌝ }
+{
+    let octets = 2 * n;
+    let head = [
+        to.unit_id,
+        23,
+        (reg / 256) as u8,
+        (reg % 256) as u8,
+        (count / 256) as u8,
+        (count % 256) as u8,
+        (write_reg / 256) as u8,
+        (write_reg % 256) as u8,
+        0,
+        n as u8,
         octets as u8,
     ];
     send(to, &head, &data[..octets], request)

@@ -9,15 +9,14 @@ use transports::start_of;
 ghost use mathlib.Core.Bool.{true, false};
 ghost use mathlib.Core.Path.{_≡_};
 ghost use mathlib.Core.List.{List};
-ghost use Prim.Native.Nat.{ℕ, _+_, _≤_};
+ghost use Prim.Native.Nat.{ℕ, _≤_};
 ghost use lib.ListN.{length, take, getD};
-ghost use Rattle.modbus.specs.Step.{choose, _≟_, _and?_, same?};
-ghost use Rattle.modbus.specs.Table.{Tab, kindOf};
-ghost use Rattle.modbus.specs.Request.{reads, code, Ask, read, fnOf, mostRead};
+ghost use Rattle.modbus.specs.Step.{choose, same?};
+ghost use Rattle.modbus.specs.Request.{code, Ask, fnOf};
 ghost use Rattle.modbus.specs.Paper.{protoOf};
 ghost use Rattle.modbus.specs.Frame.{tagOf};
-ghost use Rattle.client.specs.Asking.{excepts?, answered, replied, readInto};
-ghost use Rattle.client.specs.Hearing.{messageIn, Asks, heardFrom};
+ghost use Rattle.client.specs.Asking.{excepts?, brings?, answered, replied, readInto};
+ghost use Rattle.client.specs.Hearing.{messageIn, echoed, Showing, Asks, heardFrom};
 
 // An exception to this function: three bytes, and a code other than 0.
 fn excepts(function: u8, body: &[u8]) -> bool
@@ -35,15 +34,25 @@ fn excepts(function: u8, body: &[u8]) -> bool
     true
 }
 
-// Whether the body is the first six bytes of the request's.
-fn echoes(sent: &[u8], body: &[u8]) -> bool
-    requires { ⌜ 6 ≤ length (now sent) ⌝ }
-    ensures { λ r. ⌜ r ≡ choose (same? (now (body .entry)) (take 6 (now (sent .entry)))) true false ⌝ }
+// How many bytes of a write the answer repeats.
+fn echo_length(function: u8) -> usize
+    ensures { λ r. ⌜ ((a : Ask) → function ≡ code (fnOf a) → r ≡ echoed a) ⌝ }
 {
-    if body.len() != 6 {
+    if function == 22 {
+        return 8;
+    }
+    6
+}
+
+// Whether the body is the first n bytes of the request's.
+fn echoes(n: usize, sent: &[u8], body: &[u8]) -> bool
+    requires { ⌜ n ≤ length (now sent) ⌝ }
+    ensures { λ r. ⌜ r ≡ choose (same? (now (body .entry)) (take n (now (sent .entry)))) true false ⌝ }
+{
+    if body.len() != n {
         return false;
     }
-    for i in 0..6usize {
+    for i in 0..n {
         if body[i] != sent[i] {
             return false;
         }
@@ -54,7 +63,7 @@ fn echoes(sent: &[u8], body: &[u8]) -> bool
 // Whether the body lacks the head or the length of an answer to a read whose cells take n bytes.
 fn no_answer(function: u8, n: usize, body: &[u8]) -> bool
     requires { ⌜ n ≤ 250 ⌝ }
-    ensures { λ r. ⌜ r ≡ choose ((length (now (body .entry)) ≟ 3 + n) and? (getD (now (body .entry)) 1 0 ≟ function) and? (getD (now (body .entry)) 2 0 ≟ n)) false true ⌝ }
+    ensures { λ r. ⌜ r ≡ choose (brings? function n (now (body .entry))) false true ⌝ }
 {
     if body.len() != n + 3 {
         return true;
@@ -68,10 +77,10 @@ fn no_answer(function: u8, n: usize, body: &[u8]) -> bool
     false
 }
 
-// The answer to a read of so many cells.
+// An answer that brings so many cells.
 fn show(function: u8, count: usize, body: &[u8], values: &mut [u16]) -> Reading
-    requires { ⌜ ((t : Tab) × (function ≡ code (reads t)) × (count ≤ mostRead (kindOf t)) × (count ≤ length (now values))) ⌝ }
-    ensures { λ r. ⌜ ((t : Tab) (s : ℕ) (sent : List ℕ) → function ≡ code (reads t) → (r, now (values .exit)) ≡ readInto (now (values .entry)) (answered (read t s count) sent (now (body .entry)))) ⌝ }
+    requires { ⌜ ((a : Ask) × Showing a function count) × (count ≤ length (now values)) ⌝ }
+    ensures { λ r. ⌜ ((a : Ask) (sent : List ℕ) → Showing a function count → (r, now (values .exit)) ≡ readInto (now (values .entry)) (answered a sent (now (body .entry)))) ⌝ }
 {
     let bits = function < 3;
     let n = octets_of(bits, count);
@@ -82,7 +91,7 @@ fn show(function: u8, count: usize, body: &[u8], values: &mut [u16]) -> Reading
     told(count, 0, 0)
 }
 
-// The body of a reply in the right frame; a write has no values to show.
+// The body of a reply in the right frame; the answer to a request that reads nothing is an echo.
 fn weigh(count: usize, sent: &[u8], body: &[u8], values: &mut [u16]) -> Reading
     requires { ⌜ ((a : Ask) × Asks a count (now sent)) × (2 ≤ length (now body)) × (count ≤ length (now values)) ⌝ }
     ensures { λ r. ⌜ ((a : Ask) → Asks a count (now (sent .entry)) → (r, now (values .exit)) ≡ readInto (now (values .entry)) (heardFrom a (now (sent .entry)) (now (body .entry)))) ⌝ }
@@ -96,7 +105,8 @@ fn weigh(count: usize, sent: &[u8], body: &[u8], values: &mut [u16]) -> Reading
     if 0 < count {
         return show(sent[1], count, body, values);
     }
-    if echoes(sent, body) {
+    let n = echo_length(sent[1]);
+    if echoes(n, sent, body) {
         return told(0, 0, 0);
     }
     told(0, 12, 0)

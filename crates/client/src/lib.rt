@@ -5,9 +5,11 @@ mod hear;
 mod lay;
 
 use build::send;
+use build::send_both;
 use build::set_many;
 use build::set_one;
 use hear::hear;
+use lay::lay;
 use modbus::Answer;
 use requests::Verdict;
 use requests::judge;
@@ -17,6 +19,8 @@ use transports::start_of;
 ghost use mathlib.Core.Path.{_≡_};
 ghost use Prim.Native.Nat.{_≤_};
 ghost use lib.ListN.{length};
+ghost use Rattle.modbus.specs.Step.{go};
+ghost use Rattle.modbus.specs.Request.{masks, swaps};
 ghost use Rattle.client.specs.Asking.{asker, getting, setting, generated, laidInto, understood, readInto};
 ghost use Rattle.client.specs.Hearing.{declining, readOf, messageIn, repliedTo};
 
@@ -109,6 +113,42 @@ impl ModbusRequest {
             _ => declined(11),
         }
     }
+
+    // A request that keeps the bits of a holding where the first mask has ones and makes the others the second's: function 22.
+    pub fn generate_mask(self, reg: u16, and_mask: u16, or_mask: u16, request: &mut [u8]) -> Answer
+        ensures { λ r. ⌜ (r, now (request .exit)) ≡ laidInto (now (request .entry)) (generated self (go (masks reg «and_mask» «or_mask»)) (length (now (request .entry)))) ⌝ }
+    {
+        let head = [
+            self.unit_id,
+            22,
+            (reg / 256) as u8,
+            (reg % 256) as u8,
+            (and_mask / 256) as u8,
+            (and_mask % 256) as u8,
+            (or_mask / 256) as u8,
+            (or_mask % 256) as u8,
+        ];
+        send(self, &head, &[], request)
+    }
+
+    // A request that writes the values from `write_reg` on, and then reads `count` holdings from `reg` on: function 23.
+    pub fn generate_set_get(
+        self,
+        reg: u16,
+        count: u16,
+        write_reg: u16,
+        values: &[u16],
+        request: &mut [u8],
+    ) -> Answer
+        ensures { λ r. ⌜ (r, now (request .exit)) ≡ laidInto (now (request .entry)) (generated self (go (swaps reg count «write_reg» (now (values .entry)))) (length (now (request .entry)))) ⌝ }
+    {
+        if 121 < values.len() {
+            return declined(11);
+        }
+        let mut data = [0u8; 242];
+        lay(false, values, &mut data);
+        send_both(self, reg, count, write_reg, values.len(), &data, request)
+    }
 }
 
 // A request's body, opened: what it asks decides how a reply is read.
@@ -119,6 +159,15 @@ fn answer_to(proto: u8, request: &[u8], sent: &[u8], response: &[u8], values: &m
     match judge(sent, false, 65536, 65536, 65536, 65536) {
         Verdict::Read(q) => hear(proto, q.count as usize, request, sent, response, values),
         Verdict::Written(_) => hear(proto, 0, request, sent, response, values),
+        Verdict::Masked(_) => hear(proto, 0, request, sent, response, values),
+        Verdict::Exchanged(x) => hear(
+            proto,
+            x.read_count as usize,
+            request,
+            sent,
+            response,
+            values,
+        ),
         Verdict::Refused(_) => told(0, 11, 0),
         Verdict::Quiet(_, _) => told(0, 11, 0),
     }

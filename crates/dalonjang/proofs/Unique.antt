@@ -6,7 +6,7 @@ use Prim.Native.Nat.{ℕ}
 use Rattle.modbus.proofs.Unique.{Unique, answer-paper}
 use Rattle.driver.specs.Driven.{Leaves}
 use Rattle.driver.proofs.Unique.{drive as driver-drive}
-use Rattle.client.proofs.Unique.{generate-get as client-generate-get, generate-set as client-generate-set, parse-response as client-parse-response}
+use Rattle.client.proofs.Unique.{generate-get as client-generate-get, generate-set as client-generate-set, generate-mask as client-generate-mask, generate-set-get as client-generate-set-get, parse-response as client-parse-response}
 use Rattle.dalonjang.proofs.dalonjang_drive.Kinds as dalonjang-drive-kinds
 use Rattle.dalonjang.proofs.dalonjang_drive.Reads as dalonjang-drive-reads
 use Rattle.dalonjang.proofs.dalonjang_offer.Kinds as dalonjang-offer-kinds
@@ -25,6 +25,10 @@ use Rattle.dalonjang.proofs.dalonjang_generate_get.Kinds as dalonjang-g
 use Rattle.dalonjang.proofs.dalonjang_generate_get.Reads as dalonjang-generate-get-reads
 use Rattle.dalonjang.proofs.dalonjang_generate_set.Kinds as dalonjang-generate-set-kinds
 use Rattle.dalonjang.proofs.dalonjang_generate_set.Reads as dalonjang-generate-set-reads
+use Rattle.dalonjang.proofs.dalonjang_generate_mask.Kinds as dalonjang-generate-mask-kinds
+use Rattle.dalonjang.proofs.dalonjang_generate_mask.Reads as dalonjang-generate-mask-reads
+use Rattle.dalonjang.proofs.dalonjang_generate_set_get.Kinds as dalonjang-generate-set-get-kinds
+use Rattle.dalonjang.proofs.dalonjang_generate_set_get.Reads as dalonjang-generate-set-get-reads
 use Rattle.dalonjang.proofs.dalonjang_parse_response.Kinds as dalonjang-parse-response-kinds
 use Rattle.dalonjang.proofs.dalonjang_parse_response.Reads as dalonjang-parse-response-reads
 
@@ -54,6 +58,12 @@ generate-get = client-generate-get
 
 pub generate-set : Unique 2 dalonjang-generate-set-kinds.ps dalonjang-generate-set-kinds.r dalonjang-generate-set-reads.Post
 generate-set = client-generate-set
+
+pub generate-mask : Unique 1 dalonjang-generate-mask-kinds.ps dalonjang-generate-mask-kinds.r dalonjang-generate-mask-reads.Post
+generate-mask = client-generate-mask
+
+pub generate-set-get : Unique 2 dalonjang-generate-set-get-kinds.ps dalonjang-generate-set-get-kinds.r dalonjang-generate-set-get-reads.Post
+generate-set-get = client-generate-set-get
 
 pub parse-response : Unique 3 dalonjang-parse-response-kinds.ps dalonjang-parse-response-kinds.r dalonjang-parse-response-reads.Post
 parse-response = client-parse-response

@@ -7,6 +7,8 @@ use modbus::Answer;
 use modbus::ProtoAnswer;
 ghost use mathlib.Core.Path.{_≡_};
 ghost use lib.ListN.{length};
+ghost use Rattle.modbus.specs.Step.{go};
+ghost use Rattle.modbus.specs.Request.{masks, swaps};
 ghost use Rattle.modbus.specs.Paper.{toldWith};
 ghost use Rattle.ascii.specs.Reading.{parsedInto, generatedInto};
 ghost use Rattle.lengths.specs.Guess.{requestBody, responseBody};
@@ -149,6 +151,33 @@ pub extern "C" fn dalonjang_generate_set(
     ensures { λ r. ⌜ (r, now (request .exit)) ≡ laidInto (now (request .entry)) (generated to (setting (to .proto) func reg (now (values .entry))) (length (now (request .entry)))) ⌝ }
 {
     to.generate_set(func, reg, values, request)
+}
+
+#[no_mangle]
+pub extern "C" fn dalonjang_generate_mask(
+    to: ModbusRequest,
+    reg: u16,
+    and_mask: u16,
+    or_mask: u16,
+    request: &mut [u8],
+) -> Answer
+    ensures { λ r. ⌜ (r, now (request .exit)) ≡ laidInto (now (request .entry)) (generated to (go (masks reg «and_mask» «or_mask»)) (length (now (request .entry)))) ⌝ }
+{
+    to.generate_mask(reg, and_mask, or_mask, request)
+}
+
+#[no_mangle]
+pub extern "C" fn dalonjang_generate_set_get(
+    to: ModbusRequest,
+    reg: u16,
+    count: u16,
+    write_reg: u16,
+    values: &[u16],
+    request: &mut [u8],
+) -> Answer
+    ensures { λ r. ⌜ (r, now (request .exit)) ≡ laidInto (now (request .entry)) (generated to (go (swaps reg count «write_reg» (now (values .entry)))) (length (now (request .entry)))) ⌝ }
+{
+    to.generate_set_get(reg, count, write_reg, values, request)
 }
 
 #[no_mangle]

@@ -7,9 +7,10 @@ use Prim.Native.Nat.{ℕ, _-_, _<_}
 use native.Mathlib.Omega.{arith}
 use lib.ListN.{length, getD}
 use Rattle.modbus.specs.Bytes.{All}
-use Rattle.modbus.specs.Table.{Kind, target, Fits, Tables, Tab, Range, Hits, hits?, assign}
-use Rattle.modbus.specs.Request.{Ask, read, write, writes, Permitted, writing, given, assigned, apply}
+use Rattle.modbus.specs.Table.{Kind, word, holdings, target, Fits, Tables, Tab, Range, Hits, hits?, assign}
+use Rattle.modbus.specs.Request.{Ask, read, write, writes, masks, swaps, Permitted, writing, masked, given, assigned, apply}
 use Rattle.modbus.proofs.StepLaws.{pick-yes, pick-no}
+use Rattle.modbus.proofs.MaskLaws.{masked-fits}
 use Rattle.demands.specs.Demand.{Stored}
 
 -- no cells, or a run of coils or holdings with a value for each
@@ -22,6 +23,8 @@ pub run-of : (a : Ask) (T : Tables) → Permitted a → Run (writing a) (given a
 run-of (read t s n) T p = nothing
 run-of (write k a v) T p = run k a (v ∷ []) (p, tt)
 run-of (writes k s vs) T p = run k s vs (p .2)
+run-of (masks a x y) T p = run word a (masked (T holdings a) x y ∷ []) (masked-fits (T holdings a) x y (p .0) (p .1), tt)
+run-of (swaps r n s vs) T p = run word s vs (p .4)
 
 pub outside : (r : Range) (vs : List ℕ) (t : Tables) (tab : Tab) (i : ℕ) → ¬ Hits r tab i → assign r vs t tab i ≡ t tab i
 outside r vs t tab i n = pick-no _ _ _ n

@@ -21,7 +21,7 @@ use Rattle.requests.specs.declared.Verdict.the-variants.{Quiet}
 use Rattle.driver.specs.declared.Setup.{Setup as Numbers}
 use Rattle.driver.specs.declared.Driven.{Driven}
 use Rattle.driver.specs.Driven.{lentIn, setupOf, Leaves, leaving}
-use Rattle.driver.specs.Serving.{Counted, Ready, serving, laid, closing, handled}
+use Rattle.driver.specs.Serving.{Counted, Sized, Ready, serving, laid, closing, handled}
 use Rattle.driver.proofs.CloseLaws.{tag-length, closes}
 use Rattle.driver.proofs.SettleLaws.{judged-ready, settles, brief}
 
@@ -32,7 +32,7 @@ start-room Ascii reply h = omega arith
 start-room TcpUdp reply h = omega arith
 
 -- what was found of the body: its bytes, whether its unit is listed, the verdict
-module _ (n : Numbers) (list c d h i reply b : List ℕ) (y : (k : ℕ) → getD b k 0 < 256) (two : 2 ≤ length b)
+module _ (n : Numbers) (list c d h i reply b : List ℕ) (y : (k : ℕ) → getD b k 0 < 256) (two : 2 ≤ length b) (sized : Sized (lentIn n c d h i))
     (x : Bool) (e : x ≡ choose (listed? (getD b 0 0) list) true false)
     (v : Verdict) (j : (s : Setup) → Counted s n → v ≡ choose (on? x or? (getD b 0 0 ≟ n .unit)) (judged s x b) (Quiet 4 0)) where
   abbrev l : Lent
@@ -45,7 +45,7 @@ module _ (n : Numbers) (list c d h i reply b : List ℕ) (y : (k : ℕ) → getD
   judges = j (setupOf n list l reply) (refl, refl, refl, refl)
 
   pub body-ready : Ready l b v
-  body-ready = judged-ready n list l reply b b y x e v judges two
+  body-ready = judged-ready n list l reply b b y sized x e v judges two
 
   -- and of what was served: the result, the reply, the coils and the holdings
   module _ (start : ℕ) (z : start ≡ startOf p) (r : Driven) (o c' h' : List ℕ) (f : leaving r o c' h' ≡ laid start reply (serving l x b v)) where
@@ -60,4 +60,4 @@ module _ (n : Numbers) (list c d h i reply b : List ℕ) (y : (k : ℕ) → getD
         → leaving q w c' h' ≡ handled n list (tagOf p high low) b l reply
     closed-handled high low room q w g =
         closes p (tagOf p high low) reply (tag-length p high low) room (serving l x b v) (brief l x b v body-ready) r o c' h' (rw z at f) q w g
-        ∙ settles n list l reply (tagOf p high low) b y x e v judges
+        ∙ settles n list l reply (tagOf p high low) b y sized x e v judges

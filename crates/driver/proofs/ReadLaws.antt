@@ -1,8 +1,8 @@
--- A read carried out: its cells stand behind its head, whichever table they are of.
+-- A read carried out: its cells stand behind its head, whichever table they are of; and a read of registers after a write of registers.
 -- Assumes nothing.
 use mathlib.Core.Path.{_≡_, refl, sym, ap, _∙_}
 use mathlib.Core.List.{List, [], _∷_}
-use Prim.Native.Nat.{ℕ, _+_, _*_, _≤_, _<_}
+use Prim.Native.Nat.{ℕ, _+_, _-_, _*_, _≤_, _<_}
 use native.Mathlib.Omega.{arith}
 use lib.ListN.{length, take, drop, getD, length-take, length-drop}
 use lib.Seq.{sets, length-sets}
@@ -11,14 +11,15 @@ use Rattle.modbus.specs.Table.{Kind, bit, word, Tab, inputs, kindOf, part}
 use Rattle.modbus.specs.Request.{octets, shown, mostRead}
 use Rattle.modbus.specs.Storage.{registers, registerAt, Sound}
 use Rattle.modbus.proofs.StepLaws.{pick-yes, pick-no}
-use Rattle.modbus.proofs.StorageLaws.{size-sound, length-part}
-use Rattle.modbus.proofs.RegisterLaws.{shown-bytes}
+use Rattle.modbus.proofs.StorageLaws.{size-sound, length-part, store-length}
+use Rattle.modbus.proofs.RegisterLaws.{registers-law, shown-bytes}
 use Rattle.modbus.proofs.AnswerLaws.{length-shown}
 use Rattle.tables.specs.Calls.{named}
 use Rattle.tables.specs.Lent.{Lent, cellsOf, tablesOf}
 use Rattle.requests.specs.declared.ReadCells.{ReadCells}
+use Rattle.requests.specs.declared.Exchange.{Exchange}
 use Rattle.requests.specs.Judged.{tabOf}
-use Rattle.driver.specs.Serving.{putAt, ReadReady, readBody}
+use Rattle.driver.specs.Serving.{putAt, ReadReady, readBody, swappedBy, swapBody}
 use Rattle.driver.proofs.ReplyLaws.{put-at, put-behind}
 
 pub octets-most : (k : Kind) (n : ℕ) → n ≤ mostRead k → octets k n ≤ 250
@@ -90,3 +91,19 @@ module _ (h : RefT (List ℕ)) (hn : ℕ) (i : RefT (List ℕ)) (in' reg count :
 -- what is left of the four
 pub inputs-left : (n : ℕ) → 1 ≤ n → n ≤ 4 → ¬ (n ≡ 1) → ¬ (n ≡ 2) → ¬ (n ≡ 3) → tabOf n ≡ inputs
 inputs-left n h k a b c = let e : n ≡ 4 = omega arith in rw e
+
+-- the registers as a write left them, behind the head
+pub swap-read : (b l m reply : List ℕ) (start cells : ℕ) (x : Exchange) → Sound registers l cells → x .«read_address» + x .«read_count» ≤ cells
+    → m ≡ swappedBy x b l → ((i : ℕ) → getD m i 0 < 256) → (p : ℕ × List ℕ)
+    → p ≡ putAt start reply (getD b 0 0 ∷ getD b 1 0 ∷ (2 * x .«read_count»)
+    ∷ take ((2 * x .«read_address» + 2 * x .«read_count») - 2 * x .«read_address») (drop (2 * x .«read_address») m))
+    → p ≡ putAt start reply (swapBody x b l)
+swap-read b l m reply start cells x s h e y p f =
+    let (r, n) : ℕ × ℕ = (x .«read_address», x .«read_count») in
+    let z : (2 * r + 2 * n) - 2 * r ≡ 2 * n = omega arith in
+    let k : length m ≡ length l = ap length e ∙ store-length registers-law l _ _ in
+    f
+    ∙ ap (λ (d : List ℕ). putAt start reply (getD b 0 0 ∷ getD b 1 0 ∷ (2 * n) ∷ d))
+    (ap (λ (i : ℕ). take i (drop (2 * r) m)) z
+    ∙ sym (shown-bytes m r n (omega (arith, s .1)) y)
+    ∙ ap (λ (t : List ℕ). shown word (part (registerAt t) r n)) e)

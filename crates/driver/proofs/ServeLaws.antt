@@ -6,13 +6,15 @@ use mathlib.Core.List.{List}
 use Prim.Native.Nat.{ℕ, _≤_}
 use lib.ListN.{length}
 use Rattle.tables.specs.Lent.{Lent}
+use Rattle.requests.specs.declared.Mask.{Mask}
+use Rattle.requests.specs.declared.Exchange.{Exchange}
 use Rattle.requests.specs.declared.Write.{Write}
 use Rattle.requests.specs.declared.Write.the-variants.{Bits, Words}
-use Rattle.requests.specs.declared.Verdict.the-variants.{Written}
+use Rattle.requests.specs.declared.Verdict.the-variants.{Written, Masked, Exchanged}
 use Rattle.driver.specs.declared.Setup.{Setup as Numbers}
 use Rattle.driver.specs.declared.Driven.{Driven}
 use Rattle.driver.specs.Driven.{lentIn, Leaves, leaving}
-use Rattle.driver.specs.Serving.{Ready, resulting, putAt, storedBy, answeredAt, serving, turn, laid}
+use Rattle.driver.specs.Serving.{Ready, resulting, putAt, storedBy, maskedBy, swappedBy, swapBody, answeredAt, serving, turn, laid}
 
 -- a write looks at the coils and the holdings alone
 pub write-ready : (n : Numbers) (c d h i b : List ℕ) (w : Write) → Ready (lentIn n c d h i) b (Written w)
@@ -32,6 +34,19 @@ replied start reply c h x o k d p e f =
 
 -- a write and its echo
 pub wrote : (l : Lent) (start : ℕ) (reply : List ℕ) (broadcast : Bool) (b : List ℕ) (w : Write) (x : Driven × List ℕ) (y : List ℕ × List ℕ)
-    → x ≡ answeredAt start reply broadcast b → y ≡ storedBy w b (l .coilBytes) (l .holdingBytes)
+    → x ≡ answeredAt start reply broadcast 6 b → y ≡ storedBy w b (l .coilBytes) (l .holdingBytes)
     → leaving (x .0) (x .1) (y .0) (y .1) ≡ laid start reply (serving l broadcast b (Written w))
 wrote l start reply broadcast b w x y e f = ap₂ (λ (x : Driven × List ℕ) (y : List ℕ × List ℕ). leaving (x .0) (x .1) (y .0) (y .1)) e f
+
+-- a mask write and its echo
+pub masked-wrote : (l : Lent) (start : ℕ) (reply : List ℕ) (broadcast : Bool) (b : List ℕ) (m : Mask) (x : Driven × List ℕ) (h : List ℕ)
+    → x ≡ answeredAt start reply broadcast 8 b → h ≡ maskedBy m (l .holdingBytes)
+    → leaving (x .0) (x .1) (l .coilBytes) h ≡ laid start reply (serving l broadcast b (Masked m))
+masked-wrote l start reply broadcast b m x h e f = ap₂ (λ (x : Driven × List ℕ) (h : List ℕ). leaving (x .0) (x .1) (l .coilBytes) h) e f
+
+-- a write and read, and its reply
+pub swapped : (l : Lent) (start : ℕ) (reply : List ℕ) (broadcast : Bool) (b : List ℕ) (x : Exchange) (d : Driven) (p : ℕ × List ℕ) (h : List ℕ)
+    → d ≡ resulting 0 0 (p .0) → p ≡ putAt start reply (swapBody x b (l .holdingBytes)) → h ≡ swappedBy x b (l .holdingBytes)
+    → leaving d (p .1) (l .coilBytes) h ≡ laid start reply (serving l broadcast b (Exchanged x))
+swapped l start reply broadcast b x d p h e f g =
+    rw g (replied start reply (l .coilBytes) (swappedBy x b (l .holdingBytes)) (swapBody x b (l .holdingBytes)) 0 0 d p e f)

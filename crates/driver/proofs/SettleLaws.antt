@@ -4,13 +4,13 @@ use mathlib.Core.Bool.{Bool, true, false}
 use mathlib.Core.Logic.{_⊎_, inl, inr, ⊎-elim, by-cases}
 use mathlib.Core.Path.{_≡_, refl, sym, ap, subst, _∙_}
 use mathlib.Core.List.{List, [], _∷_}
-use Prim.Native.Nat.{ℕ, _+_, _≤_, _<_}
+use Prim.Native.Nat.{ℕ, _+_, _*_, _≤_, _<_}
 use native.Mathlib.Omega.{arith}
-use lib.ListN.{length, take, getD, length-take}
-use lib.Seq.{sets}
+use lib.ListN.{length, take, drop, getD, length-take, length-drop}
+use lib.Seq.{sets, take-length}
 use Rattle.modbus.specs.Step.{Step, stop, go, choose, _≟_, _or?_}
 use Rattle.modbus.specs.Table.{Kind, bit, word, Tab, coils, discretes, holdings, inputs, kindOf, target, part}
-use Rattle.modbus.specs.Request.{Fn, reads, code, Ask, read, octets, shown, answer, seen, found, apply}
+use Rattle.modbus.specs.Request.{Fn, reads, mask, code, Ask, read, masks, swaps, octets, shown, answer, seen, found, apply}
 use Rattle.modbus.specs.Setup.{Setup, proto}
 use Rattle.modbus.specs.Unit.{listed?, Broadcast, broadcast?, Ours}
 use Rattle.modbus.specs.Decode.{Message, foreign, readIgnored, wrongLength, badFunction, outcomeOf, IsRead, asked}
@@ -21,21 +21,23 @@ use Rattle.modbus.proofs.BytesLaws.{bytes-by}
 use Rattle.modbus.proofs.RequestLaws.{asked-says}
 use Rattle.modbus.proofs.StorageLaws.{length-part}
 use Rattle.modbus.proofs.AnswerLaws.{length-shown}
-use Rattle.modbus.specs.Storage.{storage, store}
+use Rattle.modbus.specs.Storage.{registers, registerAt, Sound, storage, store, values}
 use Rattle.tables.specs.Lent.{Lent, tableOf, tablesOf}
 use Rattle.requests.specs.Judged.{tabOf, On, on?, refusedBy, ignored, weighed, kept, keptBy, judged}
 use Rattle.requests.specs.declared.ReadCells.{ReadCells}
 use Rattle.requests.specs.declared.Cells.{Cells}
+use Rattle.requests.specs.declared.Mask.{Mask}
+use Rattle.requests.specs.declared.Exchange.{Exchange}
 use Rattle.requests.specs.declared.Write.the-variants.{Bits, Words}
 use Rattle.requests.specs.declared.Verdict.{Verdict}
-use Rattle.requests.specs.declared.Verdict.the-variants.{Read, Written, Refused, Quiet}
+use Rattle.requests.specs.declared.Verdict.the-variants.{Read, Written, Masked, Exchanged, Refused, Quiet}
 use Rattle.requests.proofs.JudgedLaws.{on, off, tab-of}
-use Rattle.requests.proofs.FineLaws.{went, FineRead, FineWrite, Fine, fine}
+use Rattle.requests.proofs.FineLaws.{went, FineRead, FineWrite, FineMask, FineBoth, Fine, fine}
 use Rattle.driver.specs.declared.Setup.{Setup as Numbers}
 use Rattle.driver.specs.Driven.{setupOf, bytesAfter, resultOf, Leaves, leaving, settled}
-use Rattle.driver.specs.Serving.{ReadReady, Ready, readBody, dataOf, echoed, doneBy, Turn, turn, serving}
+use Rattle.driver.specs.Serving.{Sized, ReadReady, Ready, readBody, dataOf, maskedBy, swappedBy, echoed, doneBy, Turn, turn, serving}
 use Rattle.driver.proofs.ReadLaws.{octets-most}
-use Rattle.driver.proofs.StoreLaws.{stored-target, stored-other, echoes}
+use Rattle.driver.proofs.StoreLaws.{stored-target, stored-other, found-after, echoes, mask-echoes}
 use Rattle.driver.proofs.CloseLaws.{closed}
 
 -- ---- a verdict is ready to be carried out
@@ -54,20 +56,29 @@ module _ (n : Numbers) (list : List ℕ) (l : Lent) (reply : List ℕ) (x : Bool
       record { first = rw (f .function) (r .0); last = rw (f .function) (r .1); most = rw e (f .most); inside = rw e (f .inside); whole = h }
   ready (Written (Bits c)) f h = record { inside = f .inside; held = f .held; single = f .single; whole = f .whole }
   ready (Written (Words c)) f h = record { inside = f .inside; held = f .held; single = f .single; whole = f .whole }
+  ready (Masked m) f h = record { inside = f .inside; whole = omega (arith, f .whole) }
+  ready (Exchanged x) f h = record { most = f .most; inside = f .inside; within = f .within; held = omega (arith, f .held) }
   ready (Refused c) f h = (h, f .1)
   ready (Quiet o c) f h = tt
+
+shown-length : (k : Kind) (s n : ℕ) (f : ℕ → ℕ) → length (shown k (part f s n)) ≡ octets k n
+shown-length k s n f = length-shown k (part f s n) ∙ ap (octets k) (length-part f s n)
 
 -- and its reply's body fits every frame
 pub brief : (l : Lent) (x : Bool) (b : List ℕ) (v : Verdict) → Ready l b v → length (serving l x b v .body) ≤ 253
 brief l x b (Read q) r =
     let t = tabOf (q .function) in
-    let vs = part (tablesOf l t) (q .address) (q .count) in
-    omega (arith, octets-most (kindOf t) (q .count) (r .most), shown-length t (q .address) (q .count) (tablesOf l t))
-  where
-    shown-length : (t : Tab) (s n : ℕ) (f : ℕ → ℕ) → length (shown (kindOf t) (part f s n)) ≡ octets (kindOf t) n
-    shown-length t s n f = length-shown (kindOf t) (part f s n) ∙ ap (octets (kindOf t)) (length-part f s n)
+    omega (arith, octets-most (kindOf t) (q .count) (r .most), shown-length (kindOf t) (q .address) (q .count) (tablesOf l t))
 brief l true b (Written w) r = omega arith
 brief l false b (Written w) r = simp length-take (omega arith)
+brief l true b (Masked m) r = omega arith
+brief l false b (Masked m) r = simp length-take (omega arith)
+brief l x b (Exchanged y) r =
+    omega (
+      arith,
+      octets-most word (y .«read_count») (r .most),
+      shown-length word (y .«read_address») (y .«read_count») (registerAt (swappedBy y b (l .holdingBytes))),
+    )
 brief l x b (Refused c) r = omega arith
 brief l x b (Quiet o c) r = omega arith
 
@@ -195,7 +206,7 @@ module _ (n : Numbers) (list : List ℕ) (l : Lent) (reply tag b : List ℕ) whe
       ap (λ (y : List ℕ). turn 0 0 y (l .coilBytes) (l .holdingBytes)) (rw (e, f .numbered, n))
 
   module _ (bytes : (i : ℕ) → getD b i 0 < 256) (k : Kind) (x : Bool) (c : Cells) (f : FineWrite k set x b c) where
-    write-echoed : (x : Bool) → answered x (asked (f .fn) b) ≡ echoed x b
+    write-echoed : (x : Bool) → answered x (asked (f .fn) b) ≡ echoed x 6 b
     write-echoed true = refl
     write-echoed false =
         sym (echoes k (c .address) _ (asked (f .fn) b) b _ (f .stores) (asked-says (f .fn) b (bytes-by b bytes) (f .numbered) (f .lengthy) (f .valued)))
@@ -213,23 +224,60 @@ module _ (n : Numbers) (list : List ℕ) (l : Lent) (reply tag b : List ℕ) whe
   four : (x : Bool) {p p' c c' h h' : List ℕ} → p ≡ p' → c ≡ c' → h ≡ h' → turn (doneBy x) 0 p c h ≡ turn (doneBy x) 0 p' c' h'
   four x e f g = rw (e, f, g)
 
-  serves : ((i : ℕ) → getD b i 0 < 256) → (x : Bool) (v : Verdict) → Fine set x b v → (a : Ask) → weighed set x b ≡ go a
+  module _ (bytes : (i : ℕ) → getD b i 0 < 256) (x : Bool) (m : Mask) (f : FineMask set x b m) where
+    mask-echoed : (x : Bool) → answered x (asked mask b) ≡ echoed x 8 b
+    mask-echoed true = refl
+    mask-echoed false = sym (mask-echoes _ _ _ b [] (asked-says mask b (bytes-by b bytes) (f .numbered) (f .whole) tt))
+
+    mask-stored : bytesAfter l (asked mask b) holdings ≡ maskedBy m (l .holdingBytes)
+    unfolding store
+    mask-stored = ap (λ (a : Ask). bytesAfter l a holdings) (f .asks) ∙ pick-yes _ _ _ refl
+
+    mask-serves : served x (asked mask b) ≡ serving l x b (Masked m)
+    mask-serves = four x (mask-echoed x) (pick-no _ _ _ apart) mask-stored
+
+  module _ (sound : Sound registers (l .holdingBytes) (l .holdingCells)) (y : Exchange) where
+    abbrev asks : Ask
+    asks = swaps (y .«read_address») (y .«read_count») (y .«write_address») (values word (y .«write_count») (drop 11 b))
+
+    abbrev replying : List ℕ → List ℕ
+    replying vs = getD b 0 0 ∷ answer asks vs
+
+    both-serves : (x : Bool) (f : FineBoth set x b y) → served x asks ≡ serving l x b (Exchanged y)
+    both-serves true f = absurd (f .own tt)
+    both-serves false f =
+        let d = drop 11 b in
+        let c : length (values word (y .«write_count») d) ≡ y .«write_count» = length-part (registerAt d) 0 (y .«write_count») in
+        let w : 2 * y .«write_count» ≡ length d = simp length-drop (omega (arith, f .held)) in
+        let e : take (2 * y .«write_count») d ≡ d = ap (λ (i : ℕ). take i d) w ∙ take-length d in
+        let h = store registers (l .holdingBytes) (y .«write_address») (values word (y .«write_count») d) in
+        let g = found-after l sound (y .«read_address») (y .«read_count») (y .«write_address») (values word (y .«write_count») d) (f .fits) (f .inside) (rw c (f .within)) in
+        let n = length-part (registerAt h) (y .«read_address») (y .«read_count») in
+        four false (ap replying g ∙ (rw (n, e, f .numbered))) (pick-no _ _ _ apart) (pick-yes _ _ _ refl ∙ (rw e))
+
+  serves : ((i : ℕ) → getD b i 0 < 256) → Sized l → (x : Bool) (v : Verdict) → Fine set x b v → (a : Ask) → weighed set x b ≡ go a
       → served x a ≡ serving l x b v
-  serves bytes x (Read q) f a e =
+  serves bytes sized x (Read q) f a e =
       let z : a ≡ read (f .tab) (q .address) (q .count) = let g = f .goes in cc in
       ap (served x) z ∙ read-serves x q f
-  serves bytes x (Written (Bits c)) f a e =
+  serves bytes sized x (Written (Bits c)) f a e =
       let z : a ≡ asked (f .fn) b = let g = f .goes in cc in
       ap (served x) z
       ∙ four x (write-echoed bytes bit x c f x) (write-target bytes bit x c f) (write-other bytes bit x c f holdings (λ h. apart (sym h)))
-  serves bytes x (Written (Words c)) f a e =
+  serves bytes sized x (Written (Words c)) f a e =
       let z : a ≡ asked (f .fn) b = let g = f .goes in cc in
       ap (served x) z ∙ four x (write-echoed bytes word x c f x) (write-other bytes word x c f coils apart) (write-target bytes word x c f)
-  serves bytes x (Refused c) f a e = let g = f .0 in let z : _≡_ {A = ℕ} 0 1 = cc in absurd (omega arith)
-  serves bytes x (Quiet o c) f a e = let z : _≡_ {A = ℕ} 0 1 = cc in absurd (omega arith)
+  serves bytes sized x (Masked m) f a e =
+      let z : a ≡ asked mask b = let g = f .goes in cc in
+      ap (served x) z ∙ mask-serves bytes x m f
+  serves bytes sized x (Exchanged y) f a e =
+      let z : a ≡ asks (sized holdings) y = let g = f .goes in cc in
+      ap (served x) z ∙ both-serves (sized holdings) y x f
+  serves bytes sized x (Refused c) f a e = let g = f .0 in let z : _≡_ {A = ℕ} 0 1 = cc in absurd (omega arith)
+  serves bytes sized x (Quiet o c) f a e = let z : _≡_ {A = ℕ} 0 1 = cc in absurd (omega arith)
 
   -- what was judged of a body, by whom its unit number means
-  module _ (bytes : (i : ℕ) → getD b i 0 < 256) (x : Bool) (listed : x ≡ choose (listed? (getD b 0 0) list) true false) (v : Verdict)
+  module _ (bytes : (i : ℕ) → getD b i 0 < 256) (sized : Sized l) (x : Bool) (listed : x ≡ choose (listed? (getD b 0 0) list) true false) (v : Verdict)
       (judges : v ≡ choose (on? x or? (getD b 0 0 ≟ n .unit)) (judged set x b) (Quiet 4 0)) where
     settles-to : Addressed set (getD b 0 0) x → (w : Step Verdict Ask) → weighed set x b ≡ w
         → settled set l reply (fromUnit set message) ≡ done (serving l x b (keptBy w))
@@ -237,7 +285,7 @@ module _ (n : Numbers) (list : List ℕ) (l : Lent) (reply tag b : List ℕ) whe
     settles-to to (stop u) e = unit-stop x to e
     settles-to to (go a) e =
         let f : Fine set x b (kept a) = fine set x b bytes {r = judged set x b} refl (ap keptBy e) in
-        ap (settled set l reply) (unit-go x to e) ∙ go-done x a to ∙ ap done (serves bytes x (kept a) f a e)
+        ap (settled set l reply) (unit-go x to e) ∙ go-done x a to ∙ ap done (serves bytes sized x (kept a) f a e)
 
     pub settles : done (serving l x b v) ≡ settled set l reply (fromUnit set message)
     unfolding judged

@@ -3,12 +3,12 @@
 use mathlib.Core.Bool.{Bool, true, false}
 use mathlib.Core.Path.{_≡_}
 use mathlib.Core.List.{List, [], _∷_}
-use Prim.Native.Nat.{ℕ, zero, suc, _+_, _≤_}
+use Prim.Native.Nat.{ℕ, zero, suc, _+_, _*_, _≤_}
 use lib.ListN.{length, take, drop, getD}
 use lib.Seq.{sets}
 use Rattle.modbus.specs.Table.{Kind, bit, word, Tab, coils, discretes, holdings, inputs, kindOf, target, part}
-use Rattle.modbus.specs.Request.{octets, shown, exception, mostRead}
-use Rattle.modbus.specs.Storage.{Sound, packed, registers, storage, store, values}
+use Rattle.modbus.specs.Request.{octets, masked, shown, exception, mostRead}
+use Rattle.modbus.specs.Storage.{Sound, packed, registers, registerAt, putRegister, storage, store, values}
 use Rattle.modbus.specs.Setup.{Setup, roomFor}
 use Rattle.modbus.specs.Frame.{wrap, tagOf, startOf, around}
 use Rattle.modbus.specs.Drive.{fromUnit}
@@ -17,10 +17,12 @@ use Rattle.tables.specs.Lent.{Lent, tableOf, tablesOf, cellsOf}
 use Rattle.requests.specs.Judged.{tabOf}
 use Rattle.requests.specs.declared.ReadCells.{ReadCells}
 use Rattle.requests.specs.declared.Cells.{Cells}
+use Rattle.requests.specs.declared.Mask.{Mask}
+use Rattle.requests.specs.declared.Exchange.{Exchange}
 use Rattle.requests.specs.declared.Write.{Write}
 use Rattle.requests.specs.declared.Write.the-variants.{Bits, Words}
 use Rattle.requests.specs.declared.Verdict.{Verdict}
-use Rattle.requests.specs.declared.Verdict.the-variants.{Read, Written, Refused, Quiet}
+use Rattle.requests.specs.declared.Verdict.the-variants.{Read, Written, Masked, Exchanged, Refused, Quiet}
 use Rattle.driver.specs.declared.Setup.{Setup as Numbers}
 use Rattle.driver.specs.declared.Driven.{Driven}
 use Rattle.driver.specs.Driven.{setupOf, Leaves, leaving, settled}
@@ -57,10 +59,26 @@ pub record WriteReady (k : Kind) (l : Lent) (b : List ℕ) (c : Cells) : Type 0 
   pub single : c .at ≡ 4 → c .count ≡ 1
   pub whole : 6 ≤ length b
 
+pub record MaskReady (l : Lent) (b : List ℕ) (m : Mask) : Type 0 where
+  pub inside : m .address + 1 ≤ l .holdingCells
+  pub whole : 8 ≤ length b
+
+-- the write of a write and read: its data stand at 11
+abbrev pub writeIn : Exchange → Cells
+writeIn x = record { address = x .«write_address»; count = x .«write_count»; at = 11 }
+
+pub record BothReady (l : Lent) (b : List ℕ) (x : Exchange) : Type 0 where
+  pub most : x .«read_count» ≤ mostRead word
+  pub inside : x .«read_address» + x .«read_count» ≤ l .holdingCells
+  pub within : x .«write_address» + x .«write_count» ≤ l .holdingCells
+  pub held : 11 + 2 * x .«write_count» ≤ length b
+
 abbrev pub Ready : Lent → List ℕ → Verdict → Type 0
 Ready l b (Read q) = ReadReady l b q
 Ready l b (Written (Bits c)) = WriteReady bit l b c
 Ready l b (Written (Words c)) = WriteReady word l b c
+Ready l b (Masked m) = MaskReady l b m
+Ready l b (Exchanged x) = BothReady l b x
 Ready l b (Refused c) = (2 ≤ length b) × (getD b 1 0 ≤ 127)
 Ready l b (Quiet o c) = Unit {0}
 
@@ -86,18 +104,30 @@ holdingsBy (Words c) b l = store registers l (c .address) (dataOf word b c)
 abbrev pub storedBy : Write → List ℕ → List ℕ → List ℕ → List ℕ × List ℕ
 storedBy w b c h = (coilsBy w b c, holdingsBy w b h)
 
--- the first six bytes are echoed, but not to a broadcast number
-abbrev pub echoed : Bool → List ℕ → List ℕ
-echoed true b = []
-echoed false b = take 6 b
+-- a register by its masks
+abbrev pub maskedBy : Mask → List ℕ → List ℕ
+maskedBy m l = putRegister l (m .address) (masked (registerAt l (m .address)) (m .«and_mask») (m .«or_mask»))
+
+-- a write and read: the registers written, and the reply, which is read off these
+abbrev pub swappedBy : Exchange → List ℕ → List ℕ → List ℕ
+swappedBy x b l = store registers l (x .«write_address») (dataOf word b (writeIn x))
+
+abbrev pub swapBody : Exchange → List ℕ → List ℕ → List ℕ
+swapBody x b l =
+    getD b 0 0 ∷ getD b 1 0 ∷ (2 * x .«read_count») ∷ shown word (part (registerAt (swappedBy x b l)) (x .«read_address») (x .«read_count»))
+
+-- the first bytes of a write are echoed, but not to a broadcast number
+abbrev pub echoed : Bool → ℕ → List ℕ → List ℕ
+echoed true n b = []
+echoed false n b = take n b
 
 abbrev pub doneBy : Bool → ℕ
 doneBy true = 1
 doneBy false = 0
 
-abbrev pub answeredAt : ℕ → List ℕ → Bool → List ℕ → Driven × List ℕ
-answeredAt start reply broadcast b =
-    (resulting (doneBy broadcast) 0 (length (echoed broadcast b)), sets reply start (echoed broadcast b))
+abbrev pub answeredAt : ℕ → List ℕ → Bool → ℕ → List ℕ → Driven × List ℕ
+answeredAt start reply broadcast n b =
+    (resulting (doneBy broadcast) 0 (length (echoed broadcast n b)), sets reply start (echoed broadcast n b))
 
 -- outcome, code, and the reply's body from the unit on; the coils and the holdings
 pub record Turn : Type 0 where
@@ -113,7 +143,9 @@ turn o x b c h = record { outcome = o; code = x; body = b; coilBytes = c; holdin
 abbrev pub serving : Lent → Bool → List ℕ → Verdict → Turn
 serving l broadcast b (Read q) = turn 0 0 (readBody l (tabOf (q .function)) b (q .address) (q .count)) (l .coilBytes) (l .holdingBytes)
 serving l broadcast b (Written w) =
-    turn (doneBy broadcast) 0 (echoed broadcast b) (coilsBy w b (l .coilBytes)) (holdingsBy w b (l .holdingBytes))
+    turn (doneBy broadcast) 0 (echoed broadcast 6 b) (coilsBy w b (l .coilBytes)) (holdingsBy w b (l .holdingBytes))
+serving l broadcast b (Masked m) = turn (doneBy broadcast) 0 (echoed broadcast 8 b) (l .coilBytes) (maskedBy m (l .holdingBytes))
+serving l broadcast b (Exchanged x) = turn 0 0 (swapBody x b (l .holdingBytes)) (l .coilBytes) (swappedBy x b (l .holdingBytes))
 serving l broadcast b (Refused c) = turn 2 c (getD b 0 0 ∷ exception (getD b 1 0) c) (l .coilBytes) (l .holdingBytes)
 serving l broadcast b (Quiet o c) = turn o c [] (l .coilBytes) (l .holdingBytes)
 

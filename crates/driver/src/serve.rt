@@ -5,6 +5,8 @@ use crate::Setup;
 use crate::result;
 use octets::word;
 use requests::Cells;
+use requests::Exchange;
+use requests::Mask;
 use requests::ReadCells;
 use requests::Verdict;
 use requests::Write;
@@ -26,7 +28,7 @@ ghost use Rattle.modbus.specs.Storage.{Sound, packed, registers, store};
 ghost use Rattle.requests.specs.declared.Verdict.the-variants as verdict;
 ghost use Rattle.driver.specs.Driven.{lentIn, leaving};
 ghost use Rattle.requests.specs.Judged.{tabOf};
-ghost use Rattle.driver.specs.Serving.{Sized, putAt, ReadReady, Ready, readBody, dataOf, storedBy, answeredAt, serving, laid};
+ghost use Rattle.driver.specs.Serving.{Sized, putAt, ReadReady, Ready, readBody, dataOf, storedBy, maskedBy, swappedBy, swapBody, answeredAt, serving, laid};
 
 // An exception: the function's number with its highest bit set, and a code.
 fn refuse(body: &[u8], code: u8, reply: &mut [u8], start: usize) -> usize
@@ -54,13 +56,13 @@ fn head(body: &[u8], n: usize, reply: &mut [u8], start: usize) -> usize
     n + 3
 }
 
-// The reply to a write: the first six bytes of its request.
-fn echo(body: &[u8], reply: &mut [u8], start: usize) -> usize
-    requires { ⌜ (6 ≤ length (now body)) × (start + 6 ≤ length (now reply)) ⌝ }
-    ensures { λ r. ⌜ (r, now (reply .exit)) ≡ putAt start (now (reply .entry)) (take 6 (now (body .entry))) ⌝ }
+// The reply to a write: the first bytes of its request.
+fn echo(body: &[u8], n: usize, reply: &mut [u8], start: usize) -> usize
+    requires { ⌜ (n ≤ length (now body)) × (start + n ≤ length (now reply)) ⌝ }
+    ensures { λ r. ⌜ (r, now (reply .exit)) ≡ putAt start (now (reply .entry)) (take n (now (body .entry))) ⌝ }
 {
-    extend(reply, start, &body[0..6]);
-    6
+    extend(reply, start, &body[0..n]);
+    n
 }
 
 // The reply to a read of registers, which stand in `part`.
@@ -164,15 +166,48 @@ fn write(w: Write, setup: Setup, body: &[u8], coils: &mut [u8], holdings: &mut [
     }
 }
 
-// A write is done: to a broadcast number nothing is sent.
-fn written(broadcast: bool, body: &[u8], reply: &mut [u8], start: usize) -> Driven
-    requires { ⌜ (6 ≤ length (now body)) × (start + 6 ≤ length (now reply)) ⌝ }
-    ensures { λ r. ⌜ (r, now (reply .exit)) ≡ answeredAt start (now (reply .entry)) broadcast (now (body .entry)) ⌝ }
+// A single register changes where its AND mask has zeros, to what the OR mask has there.
+fn write_mask(m: Mask, cells: usize, holdings: &mut [u8])
+    requires { ⌜ (m .address + 1 ≤ cells) × Sound registers (now holdings) cells ⌝ }
+    ensures { λ _. ⌜ now (holdings .exit) ≡ maskedBy m (now (holdings .entry)) ⌝ }
+{
+    let old = word(holdings, 2 * (m.address as usize));
+    let value = (old & m.and_mask) | (m.or_mask & !m.and_mask);
+    set_holding(holdings, cells, m.address, value);
+}
+
+// The write comes first, and the reply is read off what it left.
+fn exchange(
+    x: Exchange,
+    cells: usize,
+    body: &[u8],
+    holdings: &mut [u8],
+    reply: &mut [u8],
+    start: usize,
+) -> usize
+    requires { ⌜ (x .«read_count» ≤ 125) × (x .«read_address» + x .«read_count» ≤ cells) × (x .«write_address» + x .«write_count» ≤ cells) × (11 + 2 * x .«write_count» ≤ length (now body)) × (start + 253 ≤ length (now reply)) × Sound registers (now holdings) cells ⌝ }
+    ensures { λ r. ⌜ ((r, now (reply .exit)) ≡ putAt start (now (reply .entry)) (swapBody x (now (body .entry)) (now (holdings .entry)))) × (now (holdings .exit) ≡ swappedBy x (now (body .entry)) (now (holdings .entry))) ⌝ }
+{
+    let c = Cells {
+        address: x.write_address,
+        count: x.write_count,
+        at: 11,
+    };
+    write_words(c, cells, body, holdings);
+    let at = 2 * (x.read_address as usize);
+    let end = at + 2 * (x.read_count as usize);
+    read_words(body, x.read_count, &holdings[at..end], reply, start)
+}
+
+// A write is done: `n` bytes are echoed, and to a broadcast number nothing is sent.
+fn written(broadcast: bool, body: &[u8], n: usize, reply: &mut [u8], start: usize) -> Driven
+    requires { ⌜ (n ≤ length (now body)) × (start + n ≤ length (now reply)) ⌝ }
+    ensures { λ r. ⌜ (r, now (reply .exit)) ≡ answeredAt start (now (reply .entry)) broadcast n (now (body .entry)) ⌝ }
 {
     if broadcast {
         return result(1, 0, 0);
     }
-    result(0, 0, echo(body, reply, start))
+    result(0, 0, echo(body, n, reply, start))
 }
 
 // The length of the result is that of the reply's body, 0 where nothing is sent.
@@ -211,8 +246,17 @@ pub(crate) fn serve(
         ),
         Verdict::Written(w) => {
             write(w, setup, body, coils, holdings);
-            written(broadcast, body, reply, start)
+            written(broadcast, body, 6, reply, start)
         }
+        Verdict::Masked(m) => {
+            write_mask(m, setup.holding_cells, holdings);
+            written(broadcast, body, 8, reply, start)
+        }
+        Verdict::Exchanged(x) => result(
+            0,
+            0,
+            exchange(x, setup.holding_cells, body, holdings, reply, start),
+        ),
         Verdict::Refused(code) => result(2, code, refuse(body, code, reply, start)),
         Verdict::Quiet(outcome, code) => result(outcome, code, 0),
     }

@@ -39,7 +39,8 @@ headOf n = 0 ∷ 7 ∷ 0 ∷ 0 ∷ 0 ∷ n ∷ []
 
 -- a row for each number, one side of it and the other: the largest byte counts and header length, which make a frame of 255 bytes, and
 -- one more; an unknown function, in a request on both serial lines, in a reply with two bytes known and with three, and from 128 on; how many
--- bytes tell a length, and one less; the functions on both sides of those that are known; a header whose protocol is not 0
+-- bytes tell a length, and one less; the functions on both sides of those that are known; a header whose protocol is not 0; functions 22 and 23,
+-- which the crate does not know: six bytes in a request, none in a reply
 pub boundaries :
     _≡_ {A = List ((ℕ × ℕ) × (ℕ × ℕ))}
     ((asked Rtu (manyOf 15 246), asked Rtu (manyOf 15 247))
@@ -67,10 +68,13 @@ pub boundaries :
     ∷ (asked TcpUdp (take 5 (headOf 6)), asked TcpUdp (headOf 6))
     ∷ (replied TcpUdp (take 5 (headOf 3)), replied TcpUdp (headOf 3))
     ∷ (asked TcpUdp (headOf 0), asked TcpUdp (0 ∷ 7 ∷ 0 ∷ 1 ∷ 0 ∷ 6 ∷ []))
+    ∷ (asked Rtu (1 ∷ 22 ∷ 0 ∷ 2 ∷ 0 ∷ 242 ∷ 0 ∷ 37 ∷ []), asked Rtu (1 ∷ 23 ∷ 0 ∷ 0 ∷ 0 ∷ 3 ∷ 0 ∷ 1 ∷ 0 ∷ 2 ∷ 4 ∷ []))
+    ∷ (replied Rtu (1 ∷ 22 ∷ 0 ∷ 2 ∷ 0 ∷ 242 ∷ 0 ∷ 37 ∷ []), replied Rtu (replyOf 23 6))
     ∷ [])
     (replicate 10 ((0, 255), (23, 0))
     ++ ((0, 8), (0, 17)) ∷ ((21, 0), (23, 0)) ∷ ((23, 0), (0, 5)) ∷ ((23, 0), (0, 11))
     ∷ ((21, 0), (0, 8)) ∷ ((21, 0), (0, 11)) ∷ ((21, 0), (0, 9)) ∷ ((0, 7), (0, 8)) ∷ ((0, 8), (23, 0)) ∷ ((23, 0), (0, 8)) ∷ ((0, 8), (23, 0))
-    ∷ ((0, 8), (0, 8)) ∷ ((21, 0), (0, 12)) ∷ ((21, 0), (0, 9)) ∷ ((0, 6), (23, 0)) ∷ [])
+    ∷ ((0, 8), (0, 8)) ∷ ((21, 0), (0, 12)) ∷ ((21, 0), (0, 9)) ∷ ((0, 6), (23, 0)) ∷ ((0, 8), (0, 8))
+    ∷ ((23, 0), (23, 0)) ∷ [])
 unfolding Dec·and Dec·not decLe ℕ-discrete _>>=_ _>>_ need choose _or?_ digit undigit text onward orRefused second pair placed decode textParsed requestBody responseBody inByte serial guess
 boundaries = refl

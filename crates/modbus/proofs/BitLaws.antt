@@ -89,10 +89,16 @@ bit-over x n k f l =
     let h : x / 2 ^ k < 1 = shr-lt 0 k (rw zero-add (omega (arith, pow-mono l))) in
     omega arith
 
-pub bit-not : (x : ℕ) → x < 256 → (k : ℕ) → k < 8 → bitAt (255 - x) k ≡ 1 - bitAt x k
-bit-not x h =
-    eight (λ k. bitAt (255 - x) k ≡ 1 - bitAt x k) (omega arith) (omega arith) (omega arith) (omega arith) (omega arith) (omega arith)
-    (omega arith) (omega arith)
+-- all bits turned over
+pub bit-not : (w x : ℕ) → x < 2 ^ w → (k : ℕ) → k < w → bitAt (2 ^ w - 1 - x) k ≡ 1 - bitAt x k
+bit-not zero x h k l = absurd (not-suc-le-zero l)
+bit-not (suc w) x h zero l = omega (arith, pow-suc 2 w, pow-pos w)
+bit-not (suc w) x h (suc k) l =
+    let e : (2 ^ suc w - 1 - x) / 2 ≡ 2 ^ w - 1 - x / 2 = omega (arith, pow-suc 2 w, pow-pos w) in
+    sym (bit-half (2 ^ suc w - 1 - x) k)
+    ∙ ap (λ (m : ℕ). bitAt m k) e
+    ∙ bit-not w (x / 2) (omega (arith, pow-suc 2 w)) k (omega arith)
+    ∙ ap (λ (m : ℕ). 1 - m) (bit-half x k)
 
 pub bit-or : (a b k : ℕ) → bitAt (bitOr a b) k ≡ max (bitAt a k) (bitAt b k)
 bit-or a b k = rw (or-shr, or-step) (omega arith)
@@ -159,10 +165,10 @@ and-bit b n h l =
     at : (k : ℕ) → k < 8 → Dec (k ≡ n) → bitAt (bitAnd b (255 - 2 ^ n)) k ≡ bitAt (withBit b n 0) k
     at k f (yes e) =
         let one : bitAt (2 ^ n) n ≡ 1 = rw power-is at (bit-same 0 n 1 (omega arith)) in
-        rw (bit-and b (255 - 2 ^ n) k, bit-not (2 ^ n) small k f, e, one, bit-same b n 0 (omega arith)) (omega arith)
+        rw (bit-and b (255 - 2 ^ n) k, bit-not 8 (2 ^ n) small k f, e, one, bit-same b n 0 (omega arith)) (omega arith)
     at k f (no e) =
         let none : bitAt (2 ^ n) k ≡ 0 = rw power-is at (bit-other 0 n 1 (omega arith) k e) ∙ ap (λ (m : ℕ). m % 2) (zero-div (2 ^ k)) in
-        rw (bit-and b (255 - 2 ^ n) k, bit-not (2 ^ n) small k f, none, bit-other b n 0 (omega arith) k e) (omega arith)
+        rw (bit-and b (255 - 2 ^ n) k, bit-not 8 (2 ^ n) small k f, none, bit-other b n 0 (omega arith) k e) (omega arith)
 
 -- ---- a byte with a run of bits changed
 
@@ -215,7 +221,7 @@ module _ (b s n w : ℕ) (byte : b < 256) (room : s + n ≤ 8) (fits : w < 2 ^ n
       rw (
         bit-or (bitAnd b (255 - (2 ^ n - 1) * 2 ^ s)) (w * 2 ^ s) (s + k),
         bit-and b (255 - (2 ^ n - 1) * 2 ^ s) (s + k),
-        bit-not ((2 ^ n - 1) * 2 ^ s) mask-byte (s + k) (omega arith),
+        bit-not 8 ((2 ^ n - 1) * 2 ^ s) mask-byte (s + k) (omega arith),
         one,
         bit-shl w s k,
       ) (omega arith)
@@ -225,7 +231,7 @@ module _ (b s n w : ℕ) (byte : b < 256) (room : s + n ≤ 8) (fits : w < 2 ^ n
       rw (
         bit-or (bitAnd b (255 - (2 ^ n - 1) * 2 ^ s)) (w * 2 ^ s) k,
         bit-and b (255 - (2 ^ n - 1) * 2 ^ s) k,
-        bit-not ((2 ^ n - 1) * 2 ^ s) mask-byte k l,
+        bit-not 8 ((2 ^ n - 1) * 2 ^ s) mask-byte k l,
         shl-out (2 ^ n - 1) s n k (ones-lt n) o,
         shl-out w s n k fits o,
       ) (omega arith)

@@ -10,7 +10,7 @@ use Rattle.modbus.specs.Step.{stop, go, choose}
 use Rattle.modbus.specs.Table.{coils, discretes, holdings, inputs, bit, word}
 use Rattle.modbus.specs.Ported as ported
 use Rattle.modbus.specs.Ported.{Ported, codeOf, allPorted}
-use Rattle.modbus.specs.Request.{Fn, reads, one, many, code, offered}
+use Rattle.modbus.specs.Request.{Fn, reads, one, many, mask, both, code, offered}
 use Rattle.modbus.specs.Drive.{find}
 use Rattle.modbus.specs.declared.ModbusProto.{ModbusProto}
 use Rattle.modbus.proofs.StepLaws.{pick-no, picked}
@@ -52,6 +52,8 @@ code-low (one bit) = omega arith
 code-low (one word) = omega arith
 code-low (many bit) = omega arith
 code-low (many word) = omega arith
+code-low mask = omega arith
+code-low both = omega arith
 
 find-code : {F : Type 0} (x : F) (p : ModbusProto) (fn : Fn) → find code x (code fn) (offered p) ≡ go fn
 unfolding find choose ℕ-discrete
@@ -63,20 +65,25 @@ find-code x p (one bit) = refl
 find-code x p (one word) = refl
 find-code x p (many bit) = refl
 find-code x p (many word) = refl
+find-code x p mask = refl
+find-code x p both = refl
 
 pub find-fn : {F : Type 0} (x : F) (n : ℕ) (p : ModbusProto) (fn : Fn) → n ≡ code fn → find code x n (offered p) ≡ go fn
 find-fn x n p fn e = rw e (find-code x p fn)
 
 -- the numbers one by one
-pub none : (n : ℕ) → n ≢ 1 → n ≢ 2 → n ≢ 3 → n ≢ 4 → n ≢ 5 → n ≢ 6 → n ≢ 15 → n ≢ 16 → (fn : Fn) → n ≢ code fn
-none n h1 h2 h3 h4 h5 h6 h15 h16 (reads coils) = h1
-none n h1 h2 h3 h4 h5 h6 h15 h16 (reads discretes) = h2
-none n h1 h2 h3 h4 h5 h6 h15 h16 (reads holdings) = h3
-none n h1 h2 h3 h4 h5 h6 h15 h16 (reads inputs) = h4
-none n h1 h2 h3 h4 h5 h6 h15 h16 (one bit) = h5
-none n h1 h2 h3 h4 h5 h6 h15 h16 (one word) = h6
-none n h1 h2 h3 h4 h5 h6 h15 h16 (many bit) = h15
-none n h1 h2 h3 h4 h5 h6 h15 h16 (many word) = h16
+pub none : (n : ℕ) → n ≢ 1 → n ≢ 2 → n ≢ 3 → n ≢ 4 → n ≢ 5 → n ≢ 6 → n ≢ 15 → n ≢ 16 → n ≢ 22 → n ≢ 23
+    → (fn : Fn) → n ≢ code fn
+none n h1 h2 h3 h4 h5 h6 h15 h16 h22 h23 (reads coils) = h1
+none n h1 h2 h3 h4 h5 h6 h15 h16 h22 h23 (reads discretes) = h2
+none n h1 h2 h3 h4 h5 h6 h15 h16 h22 h23 (reads holdings) = h3
+none n h1 h2 h3 h4 h5 h6 h15 h16 h22 h23 (reads inputs) = h4
+none n h1 h2 h3 h4 h5 h6 h15 h16 h22 h23 (one bit) = h5
+none n h1 h2 h3 h4 h5 h6 h15 h16 h22 h23 (one word) = h6
+none n h1 h2 h3 h4 h5 h6 h15 h16 h22 h23 (many bit) = h15
+none n h1 h2 h3 h4 h5 h6 h15 h16 h22 h23 (many word) = h16
+none n h1 h2 h3 h4 h5 h6 h15 h16 h22 h23 mask = h22
+none n h1 h2 h3 h4 h5 h6 h15 h16 h22 h23 both = h23
 
 -- ---- the crate's eight
 

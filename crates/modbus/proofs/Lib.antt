@@ -6,6 +6,7 @@ pub mod Views
 pub mod CheckLaws
 pub mod HexLaws
 pub mod BitLaws
+pub mod MaskLaws
 pub mod StorageLaws
 pub mod RegisterLaws
 pub mod CargoLaws

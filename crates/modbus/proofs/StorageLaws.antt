@@ -1,7 +1,7 @@
 -- Runs of cells; what holds of any storage whose single cell keeps to three laws; the packed storage, whose bit arithmetic ends here; and
 -- what the cells of a table have room for.
 -- Assumes nothing.
-use mathlib.Core.Path.{_≡_, refl, sym, ap, _∙_}
+use mathlib.Core.Path.{_≡_, refl, sym, ap, ap₂, _∙_}
 use mathlib.Core.Logic.{_≢_}
 use mathlib.Core.List.{List, [], _∷_, _++_}
 use Prim.Native.Nat.{ℕ, zero, suc, _+_, _-_, _*_, _/_, _%_, _≤_, _<_}
@@ -40,6 +40,12 @@ module _ (f : ℕ → ℕ) where
   unfolding part
   part-all P s zero h = tt
   part-all P s (suc n) h = (h s, part-all P (suc s) n h)
+
+-- cells that hold the same
+pub part-same : (f g : ℕ → ℕ) (s n : ℕ) → ((i : ℕ) → s ≤ i → i < s + n → f i ≡ g i) → part f s n ≡ part g s n
+unfolding part
+part-same f g s zero h = refl
+part-same f g s (suc n) h = ap₂ _∷_ (h s (omega arith) (omega arith)) (part-same f g (suc s) n (λ i p q. h i (omega arith) (omega arith)))
 
 -- ---- any storage
 

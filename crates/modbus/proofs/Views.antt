@@ -46,6 +46,32 @@ seven? l e = more (six? l (omega arith)) e
     more (six a b c d e f []) q = absurd (omega arith)
     more (six a b c d e f (g ∷ r)) q = seven a b c d e f g r
 
+-- exactly eight
+pub data Octad : List ℕ → Type 0 where
+  octad : (a b c d e f g h : ℕ) → Octad (a ∷ b ∷ c ∷ d ∷ e ∷ f ∷ g ∷ h ∷ [])
+
+pub octad? : (l : List ℕ) → length l ≡ 8 → Octad l
+octad? l e = exact (seven? l (omega arith)) e
+  where
+    exact : {l : List ℕ} → Seven l → length l ≡ 8 → Octad l
+    exact (seven a b c d e f g []) q = absurd (omega arith)
+    exact (seven a b c d e f g (h ∷ [])) q = octad a b c d e f g h
+    exact (seven a b c d e f g (h ∷ x ∷ r)) q = absurd (omega arith)
+
+-- at least eleven
+pub data Eleven : List ℕ → Type 0 where
+  eleven : (a b c d e f g h i j k : ℕ) (r : List ℕ) → Eleven (a ∷ b ∷ c ∷ d ∷ e ∷ f ∷ g ∷ h ∷ i ∷ j ∷ k ∷ r)
+
+pub eleven? : (l : List ℕ) → 11 ≤ length l → Eleven l
+eleven? l e = more (seven? l (omega arith)) e
+  where
+    more : {l : List ℕ} → Seven l → 11 ≤ length l → Eleven l
+    more (seven a b c d e f g []) q = absurd (omega arith)
+    more (seven a b c d e f g (h ∷ [])) q = absurd (omega arith)
+    more (seven a b c d e f g (h ∷ i ∷ [])) q = absurd (omega arith)
+    more (seven a b c d e f g (h ∷ i ∷ j ∷ [])) q = absurd (omega arith)
+    more (seven a b c d e f g (h ∷ i ∷ j ∷ k ∷ r)) q = eleven a b c d e f g h i j k r
+
 -- a multiple of eight
 pub data Eights : List ℕ → Type 0 where
   none : Eights []

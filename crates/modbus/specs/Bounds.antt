@@ -69,6 +69,13 @@ six fn a n = 1 ∷ fn ∷ two a ++ two n
 abbrev pub more : ℕ → ℕ → ℕ → ℕ → List ℕ
 more fn a n k = six fn a n ++ (k ∷ replicate k 0)
 
+-- unit 1, function 22 with its two masks, and function 23: cells to read, cells to write, and k data bytes of zero
+abbrev pub mask : ℕ → ℕ → ℕ → List ℕ
+mask a x y = 1 ∷ 22 ∷ two a ++ two x ++ two y
+
+abbrev pub swap : ℕ → ℕ → ℕ → ℕ → ℕ → List ℕ
+swap r n s m k = 1 ∷ 23 ∷ two r ++ two n ++ two s ++ two m ++ (k ∷ replicate k 0)
+
 -- counts: 1 to 2000 for 1 and 2, 1 to 125 for 3 and 4, 1 to 1968 for 15, 1 to 123 for 16
 abbrev pub counts : List Bound
 counts =
@@ -111,6 +118,43 @@ byteCounts =
     ∷ plain 2 (sent 2 (six 16 0 2)) 7 0
     ∷ plain 2 (sent 2 (six 3 0 2 ++ (0 ∷ []))) 7 0
     ∷ plain 0 (sent 0 (1 ∷ 3 ∷ 0 ∷ 0 ∷ 0 ∷ [])) 7 0
+    ∷ []
+
+-- 22: 8 bytes, any masks
+abbrev pub masks : List Bound
+masks =
+    plain 2 (sent 2 (mask 0 0 0)) 0 0
+    ∷ plain 2 (sent 2 (mask 0 0xFFFF 0xFFFF)) 0 0
+    ∷ plain 2 (sent 2 (six 22 0 0xFFFF ++ (0 ∷ []))) 7 0
+    ∷ plain 2 (sent 2 (mask 0 0 0 ++ (0 ∷ []))) 7 0
+    ∷ plain 2 (sent 2 (mask 65535 0 0)) 0 0
+    ∷ sized 2 10 260 (sent 2 (mask 9 0 0)) 0 0
+    ∷ sized 2 10 260 (sent 2 (mask 10 0 0)) 2 2
+    ∷ []
+
+-- 23: read 1 to 125, write 1 to 121, byte count twice the write count, 11 bytes and those of the byte count
+abbrev pub swaps : List Bound
+swaps =
+    plain 2 (sent 2 (swap 0 0 0 1 2)) 2 3
+    ∷ plain 2 (sent 2 (swap 0 1 0 1 2)) 0 0
+    ∷ plain 2 (sent 2 (swap 0 125 0 1 2)) 0 0
+    ∷ plain 2 (sent 2 (swap 0 126 0 1 2)) 2 3
+    ∷ plain 2 (sent 2 (swap 0 1 0 0 0)) 2 3
+    ∷ plain 2 (sent 2 (swap 0 1 0 121 242)) 0 0
+    ∷ plain 0 (sent 0 (swap 0 125 0 121 242)) 0 0
+    ∷ plain 1 (sent 1 (swap 0 125 0 121 242)) 0 0
+    ∷ plain 2 (sent 2 (swap 0 1 0 122 242)) 2 3
+    ∷ plain 2 (sent 2 (swap 0 1 0 2 3)) 2 3
+    ∷ plain 2 (sent 2 (swap 0 1 0 2 4)) 0 0
+    ∷ plain 2 (sent 2 (swap 0 1 0 2 5)) 2 3
+    ∷ plain 2 (sent 2 (1 ∷ 23 ∷ two 0 ++ two 1 ++ two 0 ++ two 1)) 7 0
+    ∷ plain 2 (sent 2 (swap 0 1 0 2 4 ++ (0 ∷ []))) 7 0
+    ∷ plain 2 (sent 2 (swap 65535 1 65535 1 2)) 0 0
+    ∷ plain 2 (sent 2 (swap 65535 2 0 1 2)) 2 2
+    ∷ plain 2 (sent 2 (swap 0 1 65535 2 4)) 2 2
+    ∷ sized 2 10 260 (sent 2 (swap 9 1 9 1 2)) 0 0
+    ∷ sized 2 10 260 (sent 2 (swap 9 2 9 1 2)) 2 2
+    ∷ sized 2 10 260 (sent 2 (swap 9 1 9 2 4)) 2 2
     ∷ []
 
 -- values of 5: 0xFF00 or 0
@@ -189,6 +233,8 @@ functionNumbers =
     ∷ plain 2 (sent 2 (six 7 0 1)) 2 1
     ∷ plain 2 (sent 2 (six 14 0 1)) 2 1
     ∷ plain 2 (sent 2 (six 17 0 1)) 2 1
+    ∷ plain 2 (sent 2 (six 21 0 1)) 2 1
+    ∷ plain 2 (sent 2 (six 24 0 1)) 2 1
     ∷ plain 2 (sent 2 (six 127 0 1)) 2 1
     ∷ plain 2 (sent 2 (six 128 0 1)) 8 0
     ∷ plain 2 (sent 2 (six 255 0 1)) 8 0
@@ -225,6 +271,8 @@ units =
     ∷ plain 2 (sent 2 (0 ∷ 5 ∷ two 0 ++ two 1)) 3 3
     ∷ plain 2 (sent 2 (0 ∷ 16 ∷ two 65535 ++ two 2 ++ (4 ∷ 0 ∷ 0 ∷ 0 ∷ 0 ∷ []))) 3 2
     ∷ plain 2 (sent 2 (0 ∷ 128 ∷ two 0 ++ two 1)) 8 0
+    ∷ plain 2 (sent 2 (0 ∷ 22 ∷ two 0 ++ two 1 ++ two 0)) 1 0
+    ∷ plain 2 (sent 2 (0 ∷ 23 ∷ two 0 ++ two 1 ++ two 0 ++ two 1 ++ (2 ∷ 0 ∷ 0 ∷ []))) 3 0
     ∷ []
 
 -- ASCII's characters: `:01030000000` with one more for the count and two for the LRC, CR and LF; 0 to 9 and A to F are digits, their
@@ -286,25 +334,32 @@ order =
     -- broadcast read, WrongLength
     ∷ plain 0 (sent 0 (0 ∷ 3 ∷ [])) 3 0
     ∷ plain 2 (sent 2 (0 ∷ 1 ∷ two 0 ++ two 1 ++ (0 ∷ []))) 3 0
+    ∷ plain 2 (sent 2 (0 ∷ 23 ∷ [])) 3 0
     -- broadcast read, value and address
     ∷ plain 2 (sent 2 (0 ∷ 4 ∷ two 65535 ++ two 0)) 3 0
     -- WrongLength, value
     ∷ plain 2 (sent 2 (six 3 0 0 ++ (0 ∷ []))) 7 0
     ∷ plain 2 (sent 2 (six 16 0 0)) 7 0
+    ∷ plain 2 (sent 2 (swap 0 0 0 0 0 ++ (0 ∷ []))) 7 0
     -- WrongLength, address
     ∷ sized 2 10 260 (sent 2 (six 6 10 0 ++ (0 ∷ []))) 7 0
+    ∷ sized 2 10 260 (sent 2 (mask 10 0 0 ++ (0 ∷ []))) 7 0
     -- value, address
     ∷ plain 2 (sent 2 (six 3 65535 126)) 2 3
     ∷ sized 2 10 260 (sent 2 (six 1 10 0)) 2 3
     ∷ sized 2 10 260 (sent 2 (six 5 10 1)) 2 3
     ∷ sized 2 10 260 (sent 2 (more 15 10 1 2)) 2 3
     ∷ sized 2 10 260 (sent 2 (more 16 10 1 3)) 2 3
+    ∷ sized 2 10 260 (sent 2 (swap 10 0 0 1 2)) 2 3
+    ∷ sized 2 10 260 (sent 2 (swap 10 1 10 1 3)) 2 3
     ∷ []
 
 abbrev pub bounds : List Bound
 bounds =
     counts
     ++ byteCounts
+    ++ masks
+    ++ swaps
     ++ coilValues
     ++ addresses
     ++ setups

@@ -10,7 +10,7 @@ use Rattle.modbus.specs.Bytes.{wordAt}
 use Rattle.modbus.specs.Check.{crc, lrc}
 use Rattle.modbus.specs.Hex.{untext}
 use Rattle.modbus.specs.Table.{bit, word, kindOf}
-use Rattle.modbus.specs.Request.{Fn, reads, one, many, Ask, read, write, writes, mostRead, mostWritten, octets}
+use Rattle.modbus.specs.Request.{Fn, reads, one, many, mask, both, Ask, read, write, writes, masks, swaps, mostRead, mostWritten, mostSwapped, octets}
 use Rattle.modbus.specs.Storage.{values}
 use Rattle.modbus.specs.declared.ErrorKind.{ErrorKind}
 use Rattle.modbus.specs.declared.ModbusProto.{ModbusProto}
@@ -72,23 +72,31 @@ abbrev pub IsRead : Fn → Type 0
 IsRead (reads t) = Unit {0}
 IsRead (one k) = ⊥
 IsRead (many k) = ⊥
+IsRead mask = ⊥
+IsRead both = Unit {0}
 
 unfoldable pub isRead? : (fn : Fn) → Dec (IsRead fn)
 isRead? (reads t) = yes tt
 isRead? (one k) = no (λ h. h)
 isRead? (many k) = no (λ h. h)
+isRead? mask = no (λ h. h)
+isRead? both = yes tt
 
--- ---- length: functions 1 to 6 take exactly 6 bytes, 15 and 16 exactly 7 plus the byte count
+-- ---- length: functions 1 to 6 take exactly 6 bytes, 15 and 16 exactly 7 plus the byte count, 22 exactly 8, 23 exactly 11 plus the byte count
 
 abbrev pub Lengthy : Fn → List ℕ → Type 0
 Lengthy (reads t) b = length b ≡ 6
 Lengthy (one k) b = length b ≡ 6
 Lengthy (many k) b = (7 ≤ length b) × (length b ≡ 7 + getD b 6 0)
+Lengthy mask b = length b ≡ 8
+Lengthy both b = (11 ≤ length b) × (length b ≡ 11 + getD b 10 0)
 
 unfoldable pub lengthy? : (fn : Fn) (b : List ℕ) → Dec (Lengthy fn b)
 lengthy? (reads t) b = length b ≟ 6
 lengthy? (one k) b = length b ≟ 6
 lengthy? (many k) b = (7 ≤? length b) and? (length b ≟ 7 + getD b 6 0)
+lengthy? mask b = length b ≟ 8
+lengthy? both b = (11 ≤? length b) and? (length b ≟ 11 + getD b 10 0)
 
 -- ---- value rules
 
@@ -97,12 +105,20 @@ Valued (reads t) b = (1 ≤ wordAt b 4) × (wordAt b 4 ≤ mostRead (kindOf t))
 Valued (one bit) b = (wordAt b 4 ≡ 0) ⊎ (wordAt b 4 ≡ 0xFF00)
 Valued (one word) b = Unit {0}
 Valued (many k) b = (1 ≤ wordAt b 4) × ((wordAt b 4 ≤ mostWritten k) × (getD b 6 0 ≡ octets k (wordAt b 4)))
+Valued mask b = Unit {0}
+Valued both b =
+    ((1 ≤ wordAt b 4) × (wordAt b 4 ≤ mostRead word))
+    × ((1 ≤ wordAt b 8) × ((wordAt b 8 ≤ mostSwapped) × (getD b 10 0 ≡ octets word (wordAt b 8))))
 
 unfoldable pub valued? : (fn : Fn) (b : List ℕ) → Dec (Valued fn b)
 valued? (reads t) b = (1 ≤? wordAt b 4) and? (wordAt b 4 ≤? mostRead (kindOf t))
 valued? (one bit) b = (wordAt b 4 ≟ 0) or? (wordAt b 4 ≟ 0xFF00)
 valued? (one word) b = yes tt
 valued? (many k) b = (1 ≤? wordAt b 4) and? (wordAt b 4 ≤? mostWritten k) and? (getD b 6 0 ≟ octets k (wordAt b 4))
+valued? mask b = yes tt
+valued? both b =
+    ((1 ≤? wordAt b 4) and? (wordAt b 4 ≤? mostRead word))
+    and? (1 ≤? wordAt b 8) and? (wordAt b 8 ≤? mostSwapped) and? (getD b 10 0 ≟ octets word (wordAt b 8))
 
 -- ---- what a body of the right length and values asks
 
@@ -111,3 +127,5 @@ asked (reads t) b = read t (wordAt b 2) (wordAt b 4)
 asked (one bit) b = write bit (wordAt b 2) (wordAt b 4 / 0xFF00)
 asked (one word) b = write word (wordAt b 2) (wordAt b 4)
 asked (many k) b = writes k (wordAt b 2) (values k (wordAt b 4) (drop 7 b))
+asked mask b = masks (wordAt b 2) (wordAt b 4) (wordAt b 6)
+asked both b = swaps (wordAt b 2) (wordAt b 4) (wordAt b 6) (values word (wordAt b 8) (drop 11 b))

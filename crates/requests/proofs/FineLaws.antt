@@ -9,23 +9,27 @@ use native.Mathlib.Omega.{arith}
 use lib.ListN.{length, getD, take, drop, length-drop}
 use lib.Seq.{take-length}
 use Rattle.modbus.specs.Step.{Step, stop, go}
-use Rattle.modbus.specs.Bytes.{wordAt}
-use Rattle.modbus.specs.Table.{Kind, bit, word, Tab, kindOf, target, part}
-use Rattle.modbus.specs.Request.{Fn, reads, one, many, code, Ask, read, write, writes, mostRead, mostWritten, octets}
+use Rattle.modbus.specs.Bytes.{All, wordAt}
+use Rattle.modbus.specs.Table.{Kind, bit, word, Tab, holdings, kindOf, target, Fits, part}
+use Rattle.modbus.specs.Request.{Fn, reads, one, many, mask, both, code, Ask, read, write, writes, masks, swaps, mostRead, mostSwapped, mostWritten, octets}
 use Rattle.modbus.specs.Storage.{coilAt, registerAt, values}
 use Rattle.modbus.specs.Setup.{Setup}
 use Rattle.modbus.specs.Decode.{outcomeOf, IsRead, Lengthy, Valued, asked}
 use Rattle.modbus.specs.Drive.{Inside}
 use Rattle.modbus.proofs.StepLaws.{bound, needed, bound-stop, needed-stop}
 use Rattle.modbus.proofs.StorageLaws.{length-part}
+use Rattle.modbus.proofs.BytesLaws.{bytes-by}
+use Rattle.modbus.proofs.RequestLaws.{asked-says}
 use Rattle.modbus.proofs.Views.{Hexad, hexad, hexad?}
 use Rattle.modbus.proofs.FindLaws.{found-fn, found-fault}
 use Rattle.requests.specs.Judged.{On, refusedBy, weighed, kept, keptBy, judged}
 use Rattle.requests.specs.declared.Cells.{Cells}
 use Rattle.requests.specs.declared.ReadCells.{ReadCells}
+use Rattle.requests.specs.declared.Mask.{Mask}
+use Rattle.requests.specs.declared.Exchange.{Exchange}
 use Rattle.requests.specs.declared.Write.the-variants.{Bits, Words}
 use Rattle.requests.specs.declared.Verdict.{Verdict}
-use Rattle.requests.specs.declared.Verdict.the-variants.{Read, Written, Refused, Quiet}
+use Rattle.requests.specs.declared.Verdict.the-variants.{Read, Written, Masked, Exchanged, Refused, Quiet}
 use Rattle.requests.proofs.JudgedLaws.{on, many-kept}
 
 -- ---- what a body that goes through tells
@@ -72,10 +76,33 @@ pub record FineWrite (k : Kind) (s : Setup) (broadcast : Bool) (b : List ℕ) (c
   pub held : c .at + octets k (c .count) ≤ length b
   pub single : c .at ≡ 4 → c .count ≡ 1
 
+-- a mask write has its own eight bytes, and its register lies inside
+pub record FineMask (s : Setup) (broadcast : Bool) (b : List ℕ) (m : Mask) : Type 0 where
+  pub goes : weighed s broadcast b ≡ go (asked mask b)
+  pub numbered : getD b 1 0 ≡ code mask
+  pub whole : length b ≡ 8
+  pub asks : asked mask b ≡ masks (m .address) (m .«and_mask») (m .«or_mask»)
+  pub inside : m .address + 1 ≤ s .cells holdings
+
+-- a write and read has its data in the body, and both ranges lie inside
+pub record FineBoth (s : Setup) (broadcast : Bool) (b : List ℕ) (x : Exchange) : Type 0 where
+  pub goes : weighed s broadcast b
+      ≡ go (swaps (x .«read_address») (x .«read_count») (x .«write_address») (values word (x .«write_count») (drop 11 b)))
+  pub numbered : getD b 1 0 ≡ code both
+  pub some : 1 ≤ x .«read_count»
+  pub most : x .«read_count» ≤ mostRead word
+  pub inside : x .«read_address» + x .«read_count» ≤ s .cells holdings
+  pub within : x .«write_address» + x .«write_count» ≤ s .cells holdings
+  pub held : length b ≡ 11 + 2 * x .«write_count»
+  pub fits : All (Fits word) (values word (x .«write_count») (drop 11 b))
+  pub own : ¬ On broadcast
+
 abbrev pub Fine : Setup → Bool → List ℕ → Verdict → Type 0
 Fine s broadcast b (Read q) = FineRead s broadcast b q
 Fine s broadcast b (Written (Bits c)) = FineWrite bit s broadcast b c
 Fine s broadcast b (Written (Words c)) = FineWrite word s broadcast b c
+Fine s broadcast b (Masked m) = FineMask s broadcast b m
+Fine s broadcast b (Exchanged x) = FineBoth s broadcast b x
 Fine s broadcast b (Refused c) = (weighed s broadcast b ≡ stop (Refused c)) × (getD b 1 0 ≤ 127)
 Fine s broadcast b (Quiet o c) = weighed s broadcast b ≡ stop (Quiet o c)
 
@@ -100,6 +127,8 @@ one-bounds word = omega arith
 abbrev Stopped : List ℕ → Verdict → Type 0
 Stopped b (Read q) = ⊥
 Stopped b (Written w) = ⊥
+Stopped b (Masked m) = ⊥
+Stopped b (Exchanged x) = ⊥
 Stopped b (Refused c) = getD b 1 0 ≤ 127
 Stopped b (Quiet o c) = Unit {0}
 
@@ -121,6 +150,8 @@ stop-stopped s broadcast b v e =
 stopped-fine : (s : Setup) (broadcast : Bool) (b : List ℕ) (v : Verdict) → weighed s broadcast b ≡ stop v → Fine s broadcast b v
 stopped-fine s broadcast b (Read q) e = absurd (stop-stopped s broadcast b (Read q) e)
 stopped-fine s broadcast b (Written w) e = absurd (stop-stopped s broadcast b (Written w) e)
+stopped-fine s broadcast b (Masked m) e = absurd (stop-stopped s broadcast b (Masked m) e)
+stopped-fine s broadcast b (Exchanged x) e = absurd (stop-stopped s broadcast b (Exchanged x) e)
 stopped-fine s broadcast b (Refused c) e = (e, stop-stopped s broadcast b (Refused c) e)
 stopped-fine s broadcast b (Quiet o c) e = e
 
@@ -186,6 +217,20 @@ module _ (s : Setup) (broadcast : Bool) (b : List ℕ) where
         subst (Fine s broadcast b) (sym (many-kept bit b .1)) (many-fine bit n e l v (rw length-part at (i .0)))
     kept-fine (many word) n o e l v i =
         subst (Fine s broadcast b) (sym (many-kept word b .1)) (many-fine word n e l v (rw length-part at (i .0)))
+    kept-fine mask n o e l v i = record { goes = e; numbered = n; whole = l; asks = refl; inside = i .0 }
+    kept-fine both n o e l v i =
+        let c = length-part (registerAt (drop 11 b)) 0 (wordAt b 8) in
+        record {
+          goes = rw c e;
+          numbered = n;
+          some = v .0 .0;
+          most = v .0 .1;
+          inside = i .0;
+          within = i .1 .0;
+          held = rw c (omega (arith, v .1 .1 .1));
+          fits = rw c (asked-says both b (bytes-by b bytes) n l v .permitted .4);
+          own = λ h. o (h, tt);
+        }
 
     judged-fine : Fine s broadcast b (judged s broadcast b)
     unfolding judged

@@ -11,7 +11,7 @@ use Prim.Native.Nat.{ℕ}
 use Rattle.requests.specs.Judged.{verdictPaper}
 use Rattle.requests.specs.declared.Write.the-variants.{Bits, Words}
 use Rattle.requests.specs.declared.Verdict.{Verdict}
-use Rattle.requests.specs.declared.Verdict.the-variants.{Read, Written, Refused, Quiet}
+use Rattle.requests.specs.declared.Verdict.the-variants.{Read, Written, Masked, Exchanged, Refused, Quiet}
 use Rattle.requests.proofs.judge.Kinds as judge-kinds
 use Rattle.requests.proofs.judge.Reads as judge-reads
 
@@ -20,8 +20,11 @@ use Rattle.requests.proofs.judge.Reads as judge-reads
 abbrev verdictBack : List ℕ → Verdict
 verdictBack (o ∷ r ∷ c ∷ []) = cond (eqb r 0) (Quiet o c) (Refused c)
 verdictBack (o ∷ f ∷ a ∷ n ∷ []) = Read (record { function = f; address = a; count = n })
-verdictBack (o ∷ k ∷ a ∷ n ∷ at ∷ l) =
-    Written (cond (eqb k 0) (Bits (record { address = a; count = n; at = at })) (Words (record { address = a; count = n; at = at })))
+verdictBack (o ∷ k ∷ a ∷ n ∷ at ∷ []) =
+    cond (eqb k 22) (Masked (record { address = a; «and_mask» = n; «or_mask» = at }))
+    (Written (cond (eqb k 0) (Bits (record { address = a; count = n; at = at })) (Words (record { address = a; count = n; at = at }))))
+verdictBack (o ∷ k ∷ r ∷ n ∷ s ∷ m ∷ l) =
+    Exchanged (record { «read_address» = r; «read_count» = n; «write_address» = s; «write_count» = m })
 verdictBack [] = Refused 0
 verdictBack (o ∷ []) = Refused 0
 verdictBack (o ∷ r ∷ []) = Refused 0
@@ -30,6 +33,8 @@ verdict-back : (v : Verdict) → verdictBack (verdictPaper v) ≡ v
 verdict-back (Read q) = refl
 verdict-back (Written (Bits c)) = refl
 verdict-back (Written (Words c)) = refl
+verdict-back (Masked m) = refl
+verdict-back (Exchanged x) = refl
 verdict-back (Refused c) = refl
 verdict-back (Quiet o c) = refl
 

@@ -6,7 +6,7 @@ use Prim.Native.Nat.{ℕ, zero, suc}
 use lib.ListN.{length, getD}
 use Rattle.modbus.specs.Step.{Step, stop, go, _>>=_, _>>_, need, _≤?_, _and?_, not?}
 use Rattle.modbus.specs.Table.{Kind, bit, word, Tab, coils, discretes, holdings, inputs}
-use Rattle.modbus.specs.Request.{reads, code, offered, Ask, read, write, writes}
+use Rattle.modbus.specs.Request.{reads, mask, both, code, offered, Ask, read, write, writes, masks, swaps}
 use Rattle.modbus.specs.Setup.{Setup, proto}
 use Rattle.modbus.specs.Decode.{readIgnored, wrongLength, badFunction, outcomeOf, isRead?, lengthy?, valued?, asked}
 use Rattle.modbus.specs.Drive.{find, inside?}
@@ -14,7 +14,7 @@ use Rattle.requests.specs.declared.Cells.{Cells}
 use Rattle.requests.specs.declared.Write.{Write}
 use Rattle.requests.specs.declared.Write.the-variants.{Bits, Words}
 use Rattle.requests.specs.declared.Verdict.{Verdict}
-use Rattle.requests.specs.declared.Verdict.the-variants.{Read, Written, Refused, Quiet}
+use Rattle.requests.specs.declared.Verdict.the-variants.{Read, Written, Masked, Exchanged, Refused, Quiet}
 
 abbrev pub On : Bool → Type 0
 On true = Unit {0}
@@ -60,11 +60,14 @@ abbrev pub writeOf : Kind → Cells → Write
 writeOf bit c = Bits c
 writeOf word c = Words c
 
--- the cells it names, and where its data stand in the body: a single value at 4, many after the byte count at 7
+-- the cells it names, and where its data stand in the body: a single value at 4, many after the byte count at 7; masks are kept as they are, and the
+-- data of a write that comes with a read always stand at 11
 abbrev pub kept : Ask → Verdict
 kept (read t s n) = Read (record { function = code (reads t); address = s; count = n })
 kept (write k a v) = Written (writeOf k (record { address = a; count = 1; at = 4 }))
 kept (writes k s vs) = Written (writeOf k (record { address = s; count = length vs; at = 7 }))
+kept (masks a x y) = Masked (record { address = a; «and_mask» = x; «or_mask» = y })
+kept (swaps r n s vs) = Exchanged (record { «read_address» = r; «read_count» = n; «write_address» = s; «write_count» = length vs })
 
 abbrev pub keptBy : Step Verdict Ask → Verdict
 keptBy (stop v) = v
@@ -80,9 +83,11 @@ writeNumbers (Bits c) = 0 ∷ c .address ∷ c .count ∷ c .at ∷ []
 writeNumbers (Words c) = 1 ∷ c .address ∷ c .count ∷ c .at ∷ []
 
 -- first the outcome, 0 for a request that is served: then its function, or 0 for bits and 1 for words, its first cell, how many, and where a write's
--- data stand; else the length of the body that is sent, which for an exception is 3, and the code
+-- data stand, or its masks, or the cells that it writes; else the length of the body that is sent, which for an exception is 3, and the code
 abbrev pub verdictPaper : Verdict → List ℕ
 verdictPaper (Read q) = 0 ∷ q .function ∷ q .address ∷ q .count ∷ []
 verdictPaper (Written w) = 0 ∷ writeNumbers w
+verdictPaper (Masked m) = 0 ∷ code mask ∷ m .address ∷ m .«and_mask» ∷ m .«or_mask» ∷ []
+verdictPaper (Exchanged x) = 0 ∷ code both ∷ x .«read_address» ∷ x .«read_count» ∷ x .«write_address» ∷ x .«write_count» ∷ []
 verdictPaper (Refused c) = 2 ∷ 3 ∷ c ∷ []
 verdictPaper (Quiet o c) = o ∷ 0 ∷ c ∷ []

@@ -3,13 +3,13 @@
 use octets::word;
 ghost use mathlib.Core.Bool.{true, false};
 ghost use mathlib.Core.Path.{_≡_};
-ghost use Prim.Native.Nat.{_+_};
-ghost use lib.ListN.{getD};
-ghost use Rattle.modbus.specs.Step.{choose, _≤?_, _and?_};
+ghost use Prim.Native.Nat.{_+_, _≤_};
+ghost use lib.ListN.{length, getD};
+ghost use Rattle.modbus.specs.Step.{choose, _≤?_, _≟_, _and?_};
 ghost use Rattle.modbus.specs.Table.{Kind, Tab, coils, discretes, holdings, inputs, kindOf, target};
-ghost use Rattle.modbus.specs.Request.{reads, one, many, code, mostRead, mostWritten, octets};
+ghost use Rattle.modbus.specs.Request.{reads, one, many, mask, both, code, mostRead, mostWritten, octets};
 ghost use Rattle.modbus.specs.Setup.{Setup};
-ghost use Rattle.modbus.specs.Decode.{lengthy?, valued?};
+ghost use Rattle.modbus.specs.Decode.{valued?};
 ghost use Rattle.requests.specs.Judged.{refusedBy, kindBy, writeOf, judged, verdictPaper};
 ghost use Rattle.requests.specs.declared.Verdict.the-variants as verdict;
 
@@ -32,10 +32,27 @@ pub enum Write {
     Words(Cells),
 }
 
-// What becomes of a request: it is served as a read or a write, or refused with a code, or nothing is sent, with this outcome and code.
+// A mask write: the register, and its two masks.
+pub struct Mask {
+    pub address: u16,
+    pub and_mask: u16,
+    pub or_mask: u16,
+}
+
+// A write of registers and then a read of registers. The data stand in the body from 11 on.
+pub struct Exchange {
+    pub read_address: u16,
+    pub read_count: u16,
+    pub write_address: u16,
+    pub write_count: u16,
+}
+
+// What becomes of a request: it is served, or refused with a code, or nothing is sent, with this outcome and code.
 pub enum Verdict {
     Read(ReadCells),
     Written(Write),
+    Masked(Mask),
+    Exchanged(Exchange),
     Refused(u8),
     Quiet(u8, u8),
 }
@@ -150,14 +167,15 @@ fn judge_one(body: &[u8], broadcast: bool, bits: bool, cells: usize) -> Verdict
     judge_address(broadcast, bits, c, cells)
 }
 
-// Whether a write of many cells has another length than 7 bytes and those of its byte count.
-fn wrong_length(body: &[u8]) -> bool
-    ensures { λ r. ⌜ ((k : Kind) → r ≡ choose (lengthy? (many k) (now (body .entry))) false true) ⌝ }
+// Whether a body has another length than its byte count says. That stands at `at`, and the data behind it.
+fn wrong_length(body: &[u8], at: usize) -> bool
+    requires { ⌜ at ≤ 10 ⌝ }
+    ensures { λ r. ⌜ r ≡ choose ((at + 1 ≤? length (now (body .entry))) and? (length (now (body .entry)) ≟ at + 1 + getD (now (body .entry)) at 0)) false true ⌝ }
 {
-    if body.len() < 7 {
+    if body.len() < at + 1 {
         return true;
     }
-    if body.len() != 7 + body[6] as usize {
+    if body.len() != at + 1 + body[at] as usize {
         return true;
     }
     false
@@ -178,7 +196,7 @@ fn judge_many(body: &[u8], broadcast: bool, bits: bool, most: u16, cells: usize)
     requires { ⌜ (getD (now body) 1 0 ≡ code (many (kindBy bits))) × (most ≡ mostWritten (kindBy bits)) ⌝ }
     ensures { λ r. ⌜ ((s : Setup) → s .cells (target (kindBy bits)) ≡ cells → r ≡ judged s broadcast (now (body .entry))) ⌝ }
 {
-    if wrong_length(body) {
+    if wrong_length(body, 6) {
         return Verdict::Quiet(7, 0);
     }
     let count = word(body, 4);
@@ -194,6 +212,79 @@ fn judge_many(body: &[u8], broadcast: bool, bits: bool, most: u16, cells: usize)
         at: 7,
     };
     judge_address(broadcast, bits, c, cells)
+}
+
+// A mask write. Any masks will do.
+fn judge_mask(body: &[u8], broadcast: bool, cells: usize) -> Verdict
+    requires { ⌜ getD (now body) 1 0 ≡ code mask ⌝ }
+    ensures { λ r. ⌜ ((s : Setup) → s .cells holdings ≡ cells → r ≡ judged s broadcast (now (body .entry))) ⌝ }
+{
+    if body.len() != 8 {
+        return Verdict::Quiet(7, 0);
+    }
+    let address = word(body, 2);
+    if outside(address, 1, cells) {
+        return refused(broadcast, 2);
+    }
+    Verdict::Masked(Mask {
+        address: address,
+        and_mask: word(body, 4),
+        or_mask: word(body, 6),
+    })
+}
+
+// Whether a write and read of registers has a wrong count or byte count.
+fn wrong_counts(body: &[u8]) -> bool
+    requires { ⌜ 11 ≤ length (now body) ⌝ }
+    ensures { λ r. ⌜ r ≡ choose (valued? both (now (body .entry))) false true ⌝ }
+{
+    if wrong_count(word(body, 4), 125) {
+        return true;
+    }
+    let count = word(body, 8);
+    if wrong_count(count, 121) {
+        return true;
+    }
+    if body[10] as usize != octets_of(false, count) {
+        return true;
+    }
+    false
+}
+
+// A write and read of the right length and values: both ranges lie inside the table, or nothing is done.
+fn judge_ranges(x: Exchange, cells: usize) -> Verdict
+    ensures { λ r. ⌜ r ≡ choose ((x .«read_address» + x .«read_count» ≤? cells) and? (x .«write_address» + x .«write_count» ≤? cells)) (verdict.Exchanged x) (verdict.Refused 2) ⌝ }
+{
+    if outside(x.read_address, x.read_count, cells) {
+        return Verdict::Refused(2);
+    }
+    if outside(x.write_address, x.write_count, cells) {
+        return Verdict::Refused(2);
+    }
+    Verdict::Exchanged(x)
+}
+
+// A write of registers and a read of registers. On a broadcast number it is ignored, as a read is.
+fn judge_both(body: &[u8], broadcast: bool, cells: usize) -> Verdict
+    requires { ⌜ getD (now body) 1 0 ≡ code both ⌝ }
+    ensures { λ r. ⌜ ((s : Setup) → s .cells holdings ≡ cells → r ≡ judged s broadcast (now (body .entry))) ⌝ }
+{
+    if broadcast {
+        return Verdict::Quiet(3, 0);
+    }
+    if wrong_length(body, 10) {
+        return Verdict::Quiet(7, 0);
+    }
+    if wrong_counts(body) {
+        return Verdict::Refused(3);
+    }
+    let x = Exchange {
+        read_address: word(body, 2),
+        read_count: word(body, 4),
+        write_address: word(body, 6),
+        write_count: word(body, 8),
+    };
+    judge_ranges(x, cells)
 }
 
 // A function that is not offered.
@@ -231,6 +322,8 @@ pub fn judge(
         6 => judge_one(body, broadcast, false, holding_cells),
         15 => judge_many(body, broadcast, true, 1968, coil_cells),
         16 => judge_many(body, broadcast, false, 123, holding_cells),
+        22 => judge_mask(body, broadcast, holding_cells),
+        23 => judge_both(body, broadcast, holding_cells),
         _ => other_function(body[1], broadcast),
     }
 }

@@ -48,11 +48,18 @@ returns-9 : tie.Need-returns-9
 returns-9 c s z = ap verdictPaper (c .judge-many2 .ensures s (z .2))
 
 returns-10 : tie.Need-returns-10
-returns-10 c s z =
+returns-10 c s z = ap verdictPaper (c .judge-mask .ensures s (z .2))
+
+returns-11 : tie.Need-returns-11
+returns-11 c s z = ap verdictPaper (c .judge-both .ensures s (z .2))
+
+returns-12 : tie.Need-returns-12
+returns-12 c s z =
     let r = c .before .before .match .rest in
-    let q = r .0 .0 .0 .0 in
+    let f = r .0 .0 in
+    let q = f .0 .0 .0 .0 in
     ap verdictPaper (c .other-function .ensures
-    ∙ judged-other s _ _ (q .0 .0 .0 .1) (q .0 .0 .1) (q .0 .1) (q .1) (r .0 .0 .0 .1) (r .0 .0 .1) (r .0 .1) (r .1))
+    ∙ judged-other s _ _ (q .0 .0 .0 .1) (q .0 .0 .1) (q .0 .1) (q .1) (f .0 .0 .0 .1) (f .0 .0 .1) (f .0 .1) (f .1) (r .0 .1) (r .1))
 
 pub judge-spec : {M : Type 1} → statement M
-judge-spec = tie.close (tie.spec (λ c κs. search needs) returns (λ c. search needs) judge-read-requires judge-read-requires-2 judge-read-requires-3 judge-read-requires-4 (λ c κs. search needs) (λ c κs. search needs) (λ c κs. search needs) (λ c κs. search needs) (λ c. search needs) (λ c κs. search needs) returns-2 returns-3 returns-4 returns-5 returns-6 returns-7 returns-8 returns-9 returns-10)
+judge-spec = tie.close (tie.spec (λ c κs. search needs) returns (λ c. search needs) judge-read-requires judge-read-requires-2 judge-read-requires-3 judge-read-requires-4 (λ c κs. search needs) (λ c κs. search needs) (λ c κs. search needs) (λ c κs. search needs) (λ c κs. search needs) (λ c κs. search needs) (λ c. search needs) (λ c κs. search needs) returns-2 returns-3 returns-4 returns-5 returns-6 returns-7 returns-8 returns-9 returns-10 returns-11 returns-12)

@@ -13,7 +13,7 @@ use Rattle.requests.proofs.judge_many.Tie as tie
 returns : tie.Need-returns
 returns c s z =
     let k = kindBy (c .before .before .before .args .bits) in
-    let n = test-refuses _ _ (c .before .wrong-length .ensures k) (c .if1 .taken) in
+    let n = test-refuses _ _ (c .before .wrong-length .ensures) (c .if1 .taken) in
     sym (judged-length s _ _ (many k) (c .before .before .before .pre .0) (λ h. h .1) n)
 
 returns-2 : tie.Need-returns-2
@@ -22,7 +22,7 @@ returns-2 c s z =
     let t = w .before .before in
     let k = kindBy (t .before .before .args .bits) in
     let p = t .before .before .pre in
-    let l = test-passes _ _ (t .wrong-length .ensures k) (w .before .if1 .left) in
+    let l = test-passes _ _ (t .wrong-length .ensures) (w .before .if1 .left) in
     let n = test-refuses _ _ (c .before .before .wrong-count .ensures) (c .before .if2 .taken) in
     c .refused .ensures
     ∙ sym (judged-value s _ _ (many k) (p .0) (λ h. h .1) l (λ h. n (rw (w .word .ensures, p .1) (h .0, h .1 .0))))
@@ -30,7 +30,7 @@ returns-2 c s z =
 shared-slice-read-if3 : tie.Need-shared-slice-read-if3
 shared-slice-read-if3 c =
     let t = c .before .before .before .before .before in
-    let l = test-passes _ _ (t .wrong-length .ensures (kindBy (t .before .before .args .bits))) (c .before .before .before .before .if1 .left) in
+    let l = test-passes _ _ (t .wrong-length .ensures) (c .before .before .before .before .if1 .left) in
     l .0
 
 cast-if3 : tie.Need-cast-if3
@@ -42,7 +42,7 @@ returns-3 c s z =
     let t = w .before .before in
     let k = kindBy (t .before .before .args .bits) in
     let p = t .before .before .pre in
-    let l = test-passes _ _ (t .wrong-length .ensures k) (w .before .if1 .left) in
+    let l = test-passes _ _ (t .wrong-length .ensures) (w .before .if1 .left) in
     let o = c .before .before .octets-of .ensures in
     c .refused2 .ensures
     ∙ sym (judged-value s _ _ (many k) (p .0) (λ h. h .1) l (λ h. c .before .if3 .taken (rw (o, w .word .ensures) (h .1 .1))))
@@ -54,7 +54,7 @@ returns-4 c s z =
     let t = w .before .before in
     let k = kindBy (t .before .before .args .bits) in
     let p = t .before .before .pre in
-    let l = test-passes _ _ (t .wrong-length .ensures k) (w .before .if1 .left) in
+    let l = test-passes _ _ (t .wrong-length .ensures) (w .before .if1 .left) in
     let y = rw (w .word .ensures, p .1) at (test-passes _ _ (m .before .before .before .wrong-count .ensures) (m .before .before .if2 .left)) in
     let o = rw (m .octets-of .ensures, w .word .ensures) at (c .before .before .if3 .left) in
     rw (c .before .word2 .ensures, w .word .ensures) at (c .judge-address .ensures)

@@ -1,5 +1,6 @@
 //! The asking side: document 02's words (2026-02) beside the crate's own client, which builds with `generate_*` and reads
-//! with `parse_*`; ASCII text by its two functions for that.
+//! with `parse_*`; ASCII text by its two functions for that. Functions 22 and 23 (2026-05) are not among these calls: the
+//! crate has no builder for them, and its `ModbusFunction` no name, so that there is nothing to compare with.
 mod model;
 mod random;
 mod record;

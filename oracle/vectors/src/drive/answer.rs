@@ -25,12 +25,15 @@ const FEW_COILS: &str = "function 15, too few bytes";
 const OTHER_COUNT: &str = "function 16, byte count even but not twice the count";
 const ODD_BYTES: &str = "function 16, byte count odd";
 const OUTSIDE_BYTES: &str = "byte count wrong, and outside the table";
+const FUNCTION_22: &str = "function 22, unknown to it";
+const FUNCTION_23: &str = "function 23, unknown to it";
 
 /// Every way in which the crate differs, each to come up in a stream.
 #[rustfmt::skip]
-pub const WAYS: [&str; 19] = [
+pub const WAYS: [&str; 21] = [
     UNKNOWN_SHAPE, UNKNOWN_CHECK, LONG_RTU, NO_COLON, NO_CR_LF, LENGTH_FIELD, SHORT_TCP, LONG_TCP, AFTER_CHECK,
     AFTER_REQUEST, NO_DATA, READ_0, WRITE_0, OUTSIDE_0, MANY_COILS, FEW_COILS, OTHER_COUNT, ODD_BYTES, OUTSIDE_BYTES,
+    FUNCTION_22, FUNCTION_23,
 ];
 
 /// The stages of the crate that panic, each to come up in a stream.
@@ -61,10 +64,12 @@ fn way(call: &Call, outcome: u8, code: u8) -> Result<&'static str, String> {
         return Ok(way);
     }
     let body = lenient::seen(call).map_err(|_| "the crate differs on a frame it refuses")?;
-    let (known, long) = (served(body[1]), body.len() > extent(&body));
+    let (known, long) = (lenient::knows(body[1]), body.len() > extent(&body));
     match (outcome, call.transport) {
         (FRAME_BROKEN, _) if !known => Ok(UNKNOWN_SHAPE),
         (FRAME_CHECK, RTU | ASCII) if !known => Ok(UNKNOWN_CHECK),
+        _ if body[1] == 22 => Ok(FUNCTION_22),
+        _ if body[1] == 23 => Ok(FUNCTION_23),
         (FRAME_BROKEN, RTU) if frame.len() > 256 => Ok(LONG_RTU),
         (FRAME_BROKEN, ASCII) if frame[0] != b':' => Ok(NO_COLON),
         (FRAME_BROKEN, ASCII) if !ends_at_cr_lf(frame) => Ok(NO_CR_LF),

@@ -53,7 +53,7 @@ const TCP_FRAMES: [&str; 18] = [
     "001000000006 0103FFFF0001",
 ];
 /// Requests, to be sent on every transport with a right check.
-const BODIES: [&str; 15] = [
+const BODIES: [&str; 17] = [
     "010100000000",            // read of 0 cells
     "010F0000000000",          // write of 0 cells
     "010100110000",            // 0 cells outside the table
@@ -69,6 +69,9 @@ const BODIES: [&str; 15] = [
     "000F0000000901 FF",       // a broadcast, stored and refused
     "010F00000001F9",          // a panic in parse
     "018000000000",            // a panic in finalize_response
+    // functions 22 and 23, unknown to it
+    "0116000000F20025",
+    "0117000000010000000102 1234",
 ];
 
 fn bytes(text: &str) -> Vec<u8> {
@@ -94,7 +97,10 @@ pub fn edges(seed: u64, put: &mut dyn FnMut(Call)) {
     }
     for transport in [RTU, ASCII, TCP] {
         for (shape, cells) in SHAPES.iter().enumerate().take(SHAPES.len() - 2) {
-            grid(cells, &mut |body| send(shape, transport, wrap(transport, [0xAB, 0xCD], body)));
+            let mut put = |body: &[u8]| send(shape, transport, wrap(transport, [0xAB, 0xCD], body));
+            grid(cells, &mut put);
+            masks(cells[HOLDINGS] as u16, &mut put);
+            exchanges(cells[HOLDINGS] as u16, &mut put);
         }
     }
 }
@@ -122,6 +128,35 @@ fn grid(cells: &[usize; 4], put: &mut dyn FnMut(&[u8])) {
                         put(&[&body[..], &[byte], &data[..]].concat());
                     }
                 }
+            }
+        }
+    }
+}
+
+/// Function 22 at the limits of its table, a byte short and a byte long.
+fn masks(cells: u16, put: &mut dyn FnMut(&[u8])) {
+    for (unit, start) in [0, 1, 2].into_iter().flat_map(|u| [0, cells.wrapping_sub(1), cells, 65535].map(|s| (u, s))) {
+        for (and, or) in [(0xF2, 0x25), (0, 0xBEEF), (65535, 65535), (0xF0F0, 0x1234)] {
+            let words = [start, and, or].map(u16::to_be_bytes).concat();
+            let body = [&[unit, 22], &words[..], &[0]].concat();
+            (7..=9).for_each(|len| put(&body[..len]));
+        }
+    }
+}
+
+/// Function 23 with both ranges and its byte count at their limits, apart and one over the other.
+fn exchanges(cells: u16, put: &mut dyn FnMut(&[u8])) {
+    let last = cells.wrapping_sub(1);
+    for (read, count) in [(0, 0), (0, 1), (0, cells), (1, cells), (last, 1), (cells, 1), (0, 125), (0, 126), (65535, 1)]
+    {
+        for (write, written) in [(0, 0u16), (0, 1), (1, 2), (last, 1), (cells, 1), (0, 121), (0, 122), (65535, 1)] {
+            for bytes in [2 * written, 2 * written + 1, (2 * written).saturating_sub(1)] {
+                let data: Vec<u8> = (0..bytes).map(|i| (i as u8).wrapping_mul(41).wrapping_add(7)).collect();
+                let words = [read, count, write, written].map(u16::to_be_bytes).concat();
+                let body = |unit: u8| [&[unit, 23], &words[..], &[bytes as u8], &data[..]].concat();
+                (0..=2).for_each(|unit| put(&body(unit)));
+                put(&body(1)[..10]);
+                put(&body(1)[..10 + usize::from(bytes)]);
             }
         }
     }

@@ -5,6 +5,11 @@ use super::record::*;
 use super::wire::*;
 use crate::record::{ASCII, RTU};
 
+/// The crate's functions.
+pub fn knows(function: u8) -> bool {
+    matches!(function, 1..=6 | 15 | 16)
+}
+
 /// Why there is no reply.
 pub enum Silence {
     Refused, // or nothing to say: a foreign frame, a broadcast read
@@ -73,7 +78,7 @@ fn answer(call: &Call, seen: &[u8], left: &mut Left) -> Result<Vec<u8>, Silence>
         // function + 128
     }
     let fault = |code| Ok(vec![unit, function + 128, code]);
-    if !served(function) {
+    if !knows(function) {
         return fault(1); // whatever the check and the length
     }
     if broadcast && function <= 4 || seen.len() < if function <= 6 { 6 } else { 7 } {

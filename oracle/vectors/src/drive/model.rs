@@ -1,4 +1,4 @@
-//! Document 01's driver, written plainly from the page.
+//! Document 01's driver, with document 02's functions 22 and 23, written plainly from the pages.
 use super::record::*;
 use super::wire::*;
 use crate::record::{ASCII, RTU};
@@ -15,7 +15,7 @@ pub const BAD_FUNCTION: u8 = 8;
 pub const NO_ROOM: u8 = 9;
 
 pub fn served(function: u8) -> bool {
-    matches!(function, 1..=6 | 15 | 16)
+    matches!(function, 1..=6 | 15 | 16 | 22 | 23)
 }
 
 /// The table of a function that is served.
@@ -109,7 +109,7 @@ fn judge(call: &Call, body: &[u8]) -> (u8, u8) {
     if !served(function) {
         return fault(1);
     }
-    if broadcast && function <= 4 {
+    if broadcast && matches!(function, 1..=4 | 23) {
         return (BROADCAST_IGNORED, 0);
     }
     if body.len() != extent(body) {
@@ -118,18 +118,22 @@ fn judge(call: &Call, body: &[u8]) -> (u8, u8) {
     if !value_right(body) {
         return fault(3);
     }
-    if word(body, 2) + cells_asked(body) > call.tables[table_of(function)].cells {
+    let cells = call.tables[table_of(function)].cells;
+    let write_outside = function == 23 && word(body, 6) + word(body, 8) > cells;
+    if word(body, 2) + cells_asked(body) > cells || write_outside {
         return fault(2);
     }
     (if broadcast { BROADCAST_DONE } else { ANSWERED }, 0)
 }
 
-/// How long a request of this function is; for 15 and 16 at least 7.
+/// How long a request of this function is; for 15 and 16 at least 7, for 23 at least 11.
 pub fn extent(body: &[u8]) -> usize {
-    if body[1] <= 6 {
-        6
-    } else {
-        7 + body.get(6).map_or(0, |bytes| usize::from(*bytes))
+    let and_data = |at: usize| at + 1 + body.get(at).map_or(0, |bytes| usize::from(*bytes));
+    match body[1] {
+        1..=6 => 6,
+        22 => 8,
+        23 => and_data(10),
+        _ => and_data(6),
     }
 }
 
@@ -141,12 +145,17 @@ pub fn value_right(body: &[u8]) -> bool {
         5 => count == 0xFF00 || count == 0,
         15 => (1..=1968).contains(&count) && usize::from(body[6]) == count.div_ceil(8),
         16 => (1..=123).contains(&count) && usize::from(body[6]) == 2 * count,
+        23 => {
+            let written = word(body, 8);
+            (1..=125).contains(&count) && (1..=121).contains(&written) && usize::from(body[10]) == 2 * written
+        }
         _ => true,
     }
 }
 
+/// From the first on; for 23 those that are read.
 pub fn cells_asked(body: &[u8]) -> usize {
-    if matches!(body[1], 5 | 6) {
+    if matches!(body[1], 5 | 6 | 22) {
         1
     } else {
         word(body, 4)
@@ -161,6 +170,18 @@ fn serve(call: &Call, body: &[u8], left: &mut Left) -> Vec<u8> {
         5 => put_bit(&mut left.coils, start, count != 0),
         6 => left.holdings[2 * start..][..2].copy_from_slice(&body[4..6]),
         15 => (0..count).for_each(|i| put_bit(&mut left.coils, start + i, bit(&body[7..], i))),
+        22 => {
+            let (old, and, or) = (word(&left.holdings, 2 * start), word(body, 4), word(body, 6));
+            let new = (old & and | or & !and) as u16;
+            left.holdings[2 * start..][..2].copy_from_slice(&new.to_be_bytes());
+            return body.to_vec();
+        }
+        23 => {
+            let data = &body[11..]; // written first
+            left.holdings[2 * word(body, 6)..][..data.len()].copy_from_slice(data);
+            let read = &left.holdings[2 * start..][..2 * count];
+            return [&body[..2], &[read.len() as u8], read].concat();
+        }
         _ => left.holdings[2 * start..][..2 * count].copy_from_slice(&body[7..]),
     }
     body[..6].to_vec()

@@ -72,8 +72,8 @@ fn frame(chance: &mut Chance, call: &Call) -> Vec<u8> {
 /// Unit, function, start, count or value, byte count and data.
 fn body(chance: &mut Chance, call: &Call) -> Vec<u8> {
     let function = match chance.below(12) {
-        0 => chance.pick(&[0, 7, 14, 17, 43, 100, 127, 128, 129, 255]),
-        _ => chance.pick(&[1, 2, 3, 4, 5, 6, 15, 15, 16, 16]),
+        0 => chance.pick(&[0, 7, 14, 17, 21, 24, 43, 100, 127, 128, 129, 255]),
+        _ => chance.pick(&[1, 2, 3, 4, 5, 6, 15, 15, 16, 16, 22, 23]),
     };
     let unit = match chance.below(14) {
         0 => chance.byte(),
@@ -83,45 +83,69 @@ fn body(chance: &mut Chance, call: &Call) -> Vec<u8> {
     let cells = if super::model::served(function) { call.tables[super::model::table_of(function)].cells } else { 9 };
     let most = match function {
         1 | 2 => 2000,
-        3 | 4 => 125,
+        3 | 4 | 23 => 125,
         15 => 1968,
         _ => 123,
     };
-    let count = match chance.below(12) {
-        0 => chance.pick(&[0, most - 1, most, most + 1]),
-        1 => chance.pick(&[0, 1, 0xFF00, 65535]),
-        2 => chance.word().into(),
-        3 => chance.near(cells.min(most), 1),
-        _ => 1 + chance.below(cells.clamp(1, most)),
-    };
-    let asked = if matches!(function, 5 | 6) { 1 } else { count };
-    let last = cells.saturating_sub(asked);
-    let start = match chance.below(10) {
-        0 => chance.word().into(),
-        1 => chance.near(65536 - asked.clamp(1, 65536), 1).min(65535),
-        2 => chance.near(last, 1),
-        _ => chance.below(last + 1),
-    };
+    let count = count_near(chance, cells, most);
+    let start = start_near(chance, cells, if matches!(function, 5 | 6 | 22) { 1 } else { count });
     let value = match function {
         5 if chance.percent(90) => chance.pick(&[0, 0xFF00]),
-        5 | 6 => chance.word().into(),
+        5 | 6 | 22 => chance.word().into(),
         _ => count,
     };
     let mut body = vec![unit, function];
     body.extend((start as u16).to_be_bytes());
     body.extend((value as u16).to_be_bytes());
-    if matches!(function, 15 | 16) {
-        let right = if function == 15 { count.div_ceil(8) } else { 2 * count };
-        let bytes = match chance.below(12) {
-            0 => chance.near(right, 2),
-            1 => chance.below(256),
-            2 if chance.percent(30) => chance.near(248, 3),
-            _ => right,
-        };
-        body.push(bytes.min(255) as u8);
-        body.extend(chance.bytes(bytes.min(255)));
+    match function {
+        15 => data(chance, &mut body, count.div_ceil(8)),
+        16 => data(chance, &mut body, 2 * count),
+        22 => body.extend(chance.word().to_be_bytes()),
+        23 => {
+            let written = count_near(chance, cells, 121);
+            let over = chance.percent(40); // what is read
+            let first = if over { chance.near(start, 3) } else { start_near(chance, cells, written) };
+            body.extend((first as u16).to_be_bytes());
+            body.extend((written as u16).to_be_bytes());
+            data(chance, &mut body, 2 * written);
+        }
+        _ => {}
     }
     body
+}
+
+/// So many cells, mostly within the table and the function's limit.
+fn count_near(chance: &mut Chance, cells: usize, most: usize) -> usize {
+    match chance.below(12) {
+        0 => chance.pick(&[0, most - 1, most, most + 1]),
+        1 => chance.pick(&[0, 1, 0xFF00, 65535]),
+        2 => chance.word().into(),
+        3 => chance.near(cells.min(most), 1),
+        _ => 1 + chance.below(cells.clamp(1, most)),
+    }
+}
+
+/// Where they begin, mostly within the table.
+fn start_near(chance: &mut Chance, cells: usize, asked: usize) -> usize {
+    let last = cells.saturating_sub(asked);
+    match chance.below(10) {
+        0 => chance.word().into(),
+        1 => chance.near(65536 - asked.clamp(1, 65536), 1).min(65535),
+        2 => chance.near(last, 1),
+        _ => chance.below(last + 1),
+    }
+}
+
+/// The byte count, mostly the right one, and its bytes.
+fn data(chance: &mut Chance, body: &mut Vec<u8>, right: usize) {
+    let bytes = match chance.below(12) {
+        0 => chance.near(right, 2),
+        1 => chance.below(256),
+        2 if chance.percent(30) => chance.near(248, 3),
+        _ => right,
+    };
+    body.push(bytes.min(255) as u8);
+    body.extend(chance.bytes(bytes.min(255)));
 }
 
 /// Cut, lengthened, or a bit turned.

@@ -11,7 +11,7 @@ use Rattle.driver.specs.declared.Driven.{Driven}
 use Rattle.driver.specs.Driven.{lentIn, leaving}
 use Rattle.requests.specs.Judged.{tabOf}
 use Rattle.driver.specs.Serving.{Ready, readBody}
-use Rattle.driver.proofs.ServeLaws.{write-ready, write-whole, replied, wrote}
+use Rattle.driver.proofs.ServeLaws.{write-ready, write-whole, replied, wrote, masked-wrote, swapped}
 use Rattle.driver.proofs.serve.serve.Statement.{statement}
 use Rattle.driver.proofs.serve.serve.Tie as tie
 
@@ -39,12 +39,36 @@ written-requires c κs =
     let r = subst (Ready l (a .body .now)) (c .before .before .before .before .before .before .before .before .before .v2 .given .1) (s .pre .0 .0) in
     (write-whole l (a .body .now) (c .before .before .before .before .before .before .before .before .before .v2 .given .0 .0) r, omega (arith, s .pre .0 .1))
 
+write-mask-requires : tie.Need-write-mask-requires
+write-mask-requires c κs =
+    let s = c .before .before .before .before .before .before .before .before .before .before in
+    let a = s .args in
+    let l = lentIn (a .setup) (a .coils .now) (a .discretes .now) (a .holdings .now) (a .inputs .now) in
+    let r = subst (Ready l (a .body .now)) (c .before .before .v3 .given .1) (s .pre .0 .0) in
+    (r .inside, s .pre .1 holdings)
+
+written-requires-2 : tie.Need-written-requires-2
+written-requires-2 c κs =
+    let s = c .before .before .before .before .before .before .before .before .before .before .before .before .before .before in
+    let a = s .args in
+    let l = lentIn (a .setup) (a .coils .now) (a .discretes .now) (a .holdings .now) (a .inputs .now) in
+    let r = subst (Ready l (a .body .now)) (c .before .before .before .before .before .before .v3 .given .1) (s .pre .0 .0) in
+    (r .whole, omega (arith, s .pre .0 .1))
+
+exchange-requires : tie.Need-exchange-requires
+exchange-requires c κs =
+    let s = c .before .before .before .before .before .before .before .before .before .before .before in
+    let a = s .args in
+    let l = lentIn (a .setup) (a .coils .now) (a .discretes .now) (a .holdings .now) (a .inputs .now) in
+    let r = subst (Ready l (a .body .now)) (c .before .before .before .v4 .given .1) (s .pre .0 .0) in
+    (r .most, r .inside, r .within, r .held, s .pre .0 .1, s .pre .1 holdings)
+
 refuse-requires : tie.Need-refuse-requires
 refuse-requires c κs =
     let s = c .before .before .before .before .before .before .before .before .before .before in
     let a = s .args in
     let l = lentIn (a .setup) (a .coils .now) (a .discretes .now) (a .holdings .now) (a .inputs .now) in
-    let r = subst (Ready l (a .body .now)) (c .before .before .v3 .given .1) (s .pre .0 .0) in
+    let r = subst (Ready l (a .body .now)) (c .before .before .v5 .given .1) (s .pre .0 .0) in
     (r .0, r .1, omega (arith, s .pre .0 .1))
 
 returns : tie.Need-returns
@@ -63,15 +87,28 @@ returns-2 c =
 
 returns-3 : tie.Need-returns-3
 returns-3 c =
-    let a = c .before .before .before .before .before .before .before .before .before .before .before .before .before .before .args in
-    let k = c .before .before .before .before .before .before .v3 .given .0 .0 in
-    let x = getD (a .body .now) 0 0 ∷ exception (getD (a .body .now) 1 0) k in
-    rw (c .before .before .before .before .before .before .v3 .given .1) (replied (a .start) (a .reply .now) (a .coils .now) (a .holdings .now) x 2 k _ _ (c .result2 .ensures) (c .before .before .before .refuse .ensures))
+    let a = c .before .before .before .before .before .before .before .before .before .before .before .before .before .before .before .before .before .args in
+    let l = lentIn (a .setup) (a .coils .now) (a .discretes .now) (a .holdings .now) (a .inputs .now) in
+    rw (c .before .before .before .before .before .before .before .before .before .v3 .given .1) (masked-wrote l (a .start) (a .reply .now) (a .broadcast) (a .body .now) (c .before .before .before .before .before .before .before .before .before .v3 .given .0 .0) _ _ (c .before .before .written2 .ensures) (c .before .before .before .before .before .before .write-mask .ensures))
 
 returns-4 : tie.Need-returns-4
 returns-4 c =
+    let a = c .before .before .before .before .before .before .before .before .before .before .before .before .before .before .before .before .before .args in
+    let l = lentIn (a .setup) (a .coils .now) (a .discretes .now) (a .holdings .now) (a .inputs .now) in
+    let e = c .before .before .before .before .before .exchange .ensures in
+    rw (c .before .before .before .before .before .before .before .before .before .v4 .given .1) (swapped l (a .start) (a .reply .now) (a .broadcast) (a .body .now) (c .before .before .before .before .before .before .before .before .before .v4 .given .0 .0) _ _ _ (c .result2 .ensures) (e .0) (e .1))
+
+returns-5 : tie.Need-returns-5
+returns-5 c =
+    let a = c .before .before .before .before .before .before .before .before .before .before .before .before .before .before .args in
+    let k = c .before .before .before .before .before .before .v5 .given .0 .0 in
+    let x = getD (a .body .now) 0 0 ∷ exception (getD (a .body .now) 1 0) k in
+    rw (c .before .before .before .before .before .before .v5 .given .1) (replied (a .start) (a .reply .now) (a .coils .now) (a .holdings .now) x 2 k _ _ (c .result3 .ensures) (c .before .before .before .refuse .ensures))
+
+returns-6 : tie.Need-returns-6
+returns-6 c =
     let a = c .before .before .before .before .before .before .before .before .before .before .args in
-    rw (c .before .before .v4 .given .1) (ap (λ (d : Driven). leaving d (a .reply .now) (a .coils .now) (a .holdings .now)) (c .result3 .ensures))
+    rw (c .before .before .v6 .given .1) (ap (λ (d : Driven). leaving d (a .reply .now) (a .coils .now) (a .holdings .now)) (c .result4 .ensures))
 
 pub serve-spec : {M : Type 1} → statement M
-serve-spec = tie.close (tie.spec (λ c. search needs) read-requires (λ c κs. search needs) (λ c. search needs) write-requires written-requires (λ c. search needs) refuse-requires (λ c κs. search needs) (λ c. search needs) (λ c κs. search needs) (λ c. search needs) (λ c. search needs) (λ c. search needs) returns (λ c. search needs) (λ c. search needs) (λ c. search needs) returns-2 (λ c. search needs) returns-3 returns-4)
+serve-spec = tie.close (tie.spec (λ c. search needs) read-requires (λ c κs. search needs) (λ c. search needs) write-requires written-requires (λ c. search needs) write-mask-requires written-requires-2 (λ c. search needs) exchange-requires (λ c κs. search needs) (λ c. search needs) refuse-requires (λ c κs. search needs) (λ c. search needs) (λ c κs. search needs) (λ c. search needs) (λ c. search needs) (λ c. search needs) returns (λ c. search needs) (λ c. search needs) (λ c. search needs) returns-2 (λ c. search needs) (λ c. search needs) returns-3 (λ c. search needs) (λ c. search needs) returns-4 (λ c. search needs) returns-5 returns-6)
