@@ -11,8 +11,9 @@ static struct dalonjang_unit unit; /* made before the first call of a row, as fi
 
 static int start(const struct row *row) {
     size_t cells = row->cells, bits = (cells + 7) / 8;
-    unit = (struct dalonjang_unit){{row->kind > CRC ? DALONJANG_RTU : (uint8_t)row->kind, UNIT, cells, cells, cells, cells}, everyone, sizeof everyone,
-        coils, bits, discretes, bits, holdings, 2 * cells, inputs, 2 * cells};
+    unit = (struct dalonjang_unit){
+        {row->kind > CRC ? DALONJANG_RTU : (uint8_t)row->kind, UNIT, row->how == SMALL, cells, cells, cells, cells},
+        everyone, sizeof everyone, coils, bits, discretes, bits, holdings, 2 * cells, inputs, 2 * cells};
     return cells <= DALONJANG_MOST_CELLS;
 }
 

@@ -12,9 +12,9 @@
  *     build(row)        one request; its length, at `built`
  *     hear(row, reply)  that request's reply; how many values it shows, at `heard`
  *
- * Standard input has a line for each row: rtu, ascii, tcp, crc, offer or quiet; ours, foreign, broadcast, spoilt, built or
- * heard; then function, start, count and cells. A row's request is made once and its reply compared, with a write read back.
- * Then it is made FEW times between two calls of
+ * Standard input has a line for each row: rtu, ascii, tcp, crc, offer or quiet; ours, foreign, broadcast, spoilt, small,
+ * built or heard; then function, start, count and cells. A row's request is made once and its reply compared, with a
+ * write read back. Then it is made FEW times between two calls of
  * bench_mark, and twice as often between two more: whoever counts instructions divides the difference by FEW. Where
  * the server has no such call, nothing is between the marks.
  * Status: 0 all was as it must be, 1 a wrong reply or CRC, 2 a line that is no row. */
@@ -59,7 +59,7 @@ static void try_kept(const struct row *row) {
 
 static void try_row(const struct row *row) {
     int bits = row->function == 1 || row->function == 5 || row->function == 15;
-    int done = row->how == OURS || row->how == BROADCAST, reads = row->function < 5;
+    int done = row->how == OURS || row->how == SMALL || row->how == BROADCAST, reads = row->function < 5;
     int inside = done && row->count > 0 && row->start + row->count <= row->cells;
     if (inside && reads) try_cells(row, bits ? 15 : 16, bits ? 1000 : 100);
     if (inside && row->function == 23) try_kept(row);
@@ -185,7 +185,7 @@ static void measure_collector(const struct row *row) {
 
 int main(void) {
     static const char *const kinds[] = {"rtu", "ascii", "tcp", "crc", "offer", "quiet"};
-    static const char *const hows[] = {"ours", "foreign", "broadcast", "spoilt", "built", "heard"};
+    static const char *const hows[] = {"ours", "foreign", "broadcast", "spoilt", "small", "built", "heard"};
     _Alignas(PAGE) char kind[8]; /* so the stack is at the same place in a page whatever the environment */
     char how[16];
     struct row row = {0};

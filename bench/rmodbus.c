@@ -10,10 +10,10 @@ uint16_t crate_crc(const uint8_t *bytes, size_t n);
 static struct crate *server;
 
 /* The crate's storage has its sizes at compile time; it answers a count of 0 otherwise than the Modbus document, takes no
- * TCP frame above 256 bytes, and does not know functions 22 and 23. */
+ * TCP frame above 256 bytes and no text in small letters, and does not know functions 22 and 23. */
 static int start(const struct row *row) {
     server = crate_new();
-    if (row->function > 16) return 0;
+    if (row->function > 16 || row->how == SMALL) return 0;
     return row->kind == CRC || (row->cells == 10000 && row->count > 0 && (row->kind != TCP || request_of(row).len <= 256));
 }
 

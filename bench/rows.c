@@ -122,17 +122,24 @@ static void spoil(struct line *line, int kind) {
     *last = kind == ASCII ? (*last == '0' ? '1' : '0') : (uint8_t)(*last ^ 1);
 }
 
+/* The letters of a text are small. */
+static void make_small(struct line *line) {
+    for (size_t i = 0; i < line->len; i++)
+        if (line->bytes[i] >= 'A' && line->bytes[i] <= 'F') line->bytes[i] = (uint8_t)(line->bytes[i] + 'a' - 'A');
+}
+
 struct line request_of(const struct row *row) {
     uint8_t body[MOST];
     size_t n = put_request(body, row);
     struct line line = wrapped(row->kind, body, n);
     if (row->how == SPOILT) spoil(&line, row->kind);
+    if (row->how == SMALL) make_small(&line);
     return line;
 }
 
 struct line reply_of(const struct row *row) {
     uint8_t body[MOST];
-    if (row->how != OURS) return (struct line){{0}, 0};
+    if (row->how != OURS && row->how != SMALL) return (struct line){{0}, 0};
     size_t n = put_reply(body, row);
     return wrapped(row->kind, body, n);
 }

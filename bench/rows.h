@@ -8,8 +8,9 @@
  * offered, and a quiet line with the request as an RTU frame held. */
 enum { RTU, ASCII, TCP, CRC, OFFER, QUIET };
 enum { UNIT = 1, OTHER_UNIT = 2, EVERYONE = 0, MOST = 520 };
-/* To our unit; to another; to all; to ours, with a wrong check; built by the asking side, its reply read there. */
-enum { OURS, FOREIGN, BROADCAST, SPOILT, BUILT, HEARD };
+/* To our unit; to another; to all; to ours, with a wrong check; to ours, in small letters, which is lenient ASCII; built
+ * by the asking side, its reply read there. */
+enum { OURS, FOREIGN, BROADCAST, SPOILT, SMALL, BUILT, HEARD };
 enum { KEPT = 4 }; /* what function 23 reads and does not write, the last cells of its row */
 enum { PAGE = 4096 }; /* tables and buffers start at a page: the cost of a copy depends on where it starts */
 
@@ -29,7 +30,7 @@ struct line {
 struct line request_of(const struct row *row);
 
 /* What must come back when the cells have these values, or the exception if there are none or they are not all in the
- * table; nothing, unless it is to our unit and whole. */
+ * table; nothing, unless it is to our unit and whole. In capitals, however it was asked. */
 struct line reply_of(const struct row *row);
 
 /* What the row's cell i holds in this turn, 0 or 1 for a coil. */

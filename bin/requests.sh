@@ -33,6 +33,9 @@ requests() {
     [ "$1" != tcp ] || return 0
     asked 'wrong check: read # registers' "$1" spoilt 3 104 2
     asked 'wrong check: write # registers' "$1" spoilt 16 104 $most
+    [ "$1" = ascii ] || return 0
+    asked 'lower case: read # registers' "$1" small 3 171 2 # 171 has letters
+    asked 'lower case: write # registers' "$1" small 16 104 $most
 }
 
 # From few to the most, for the picture.

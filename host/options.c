@@ -34,6 +34,11 @@ static int set_list(struct options *o, const char *value) {
     return 1;
 }
 
+static int set_hex(struct options *o, const char *value) {
+    o->hex = strcmp(value, "lenient") == 0 ? DALONJANG_LENIENT : DALONJANG_STRICT;
+    return o->hex == DALONJANG_LENIENT || strcmp(value, "strict") == 0;
+}
+
 static int set_all_cells(struct options *o, const char *value) {
     size_t cells;
     if (!number(value, 0, DALONJANG_MOST_CELLS, &cells)) return 0;
@@ -75,6 +80,8 @@ static const struct option option[] = {
     OTHER("no-tcp", NULL, "serve serial lines alone", set_no_tcp),
     OTHER("rtu", "DEVICE", "serve this serial line or pseudo terminal as RTU; may be given again", set_rtu),
     OTHER("ascii", "DEVICE", "the same as ASCII", set_ascii),
+    OTHER("hex", "READING", "digits of the ASCII lines: strict, 0-9 and A-F, or lenient, a-f too, as some testers send\n"
+        "                       them (strict); replies are in capitals", set_hex),
     OTHER("baud", "SPEED", "speed of the serial lines, 1200 to 4000000 as the system has them (19200)", set_baud),
     OTHER("mode", "MODE", "data bits, parity, stop bits (8E1 for RTU, 7E1 for ASCII)", set_mode),
     OTHER("rs485", NULL, "let the serial driver switch the direction of an RS-485 line, where it can", set_rs485),

@@ -10,6 +10,7 @@ struct options {
     size_t port, clients, idle, patience; /* the last two in seconds; idle 0: for ever */
     int no_tcp;
     size_t unit;
+    uint8_t hex; /* enum dalonjang_hex */
     uint8_t list[256];
     size_t list_len;
     size_t cells[TABLES];

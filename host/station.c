@@ -6,8 +6,8 @@ int station_open(struct station *s, const struct options *o) {
     const struct table *holdings = &s->table[HOLDINGS], *inputs = &s->table[INPUTS];
     if (!tables_make(s->table, o->cells)) return 0;
     s->unit = (struct dalonjang_unit){
-        .setup = {.unit = (uint8_t)o->unit, .coil_cells = coils->cells, .discrete_cells = discretes->cells,
-                  .holding_cells = holdings->cells, .input_cells = inputs->cells},
+        .setup = {.unit = (uint8_t)o->unit, .hex = o->hex, .coil_cells = coils->cells,
+                  .discrete_cells = discretes->cells, .holding_cells = holdings->cells, .input_cells = inputs->cells},
         .list = o->list, .list_len = o->list_len,
         .coils = coils->bytes, .coils_len = coils->len,
         .discretes = discretes->bytes, .discretes_len = discretes->len,
@@ -23,10 +23,11 @@ struct request {
 
 /* Of a frame that was served: it stands in the ten bytes from the unit on, however the frame travels. A body that is
  * shorter has no words. */
-static struct request request_of(uint8_t transport, const uint8_t *frame, size_t len) {
+static struct request request_of(const struct dalonjang_setup *ours, const uint8_t *frame, size_t len) {
     uint8_t body[255] = {0};
-    size_t header = transport == DALONJANG_TCP ? 6 : 0;
-    if (transport == DALONJANG_ASCII) dalonjang_parse_ascii_frame(frame, len, len, body, sizeof body, 0);
+    size_t header = ours->transport == DALONJANG_TCP ? 6 : 0;
+    if (ours->transport == DALONJANG_ASCII)
+        dalonjang_parse_ascii_frame(frame, len, len, body, sizeof body, 0, ours->hex);
     else if (len > header) memcpy(body, frame + header, len - header < sizeof body ? len - header : sizeof body);
     struct request asked = {.unit = body[0], .function = body[1]};
     for (size_t i = 0; i < 4; i++) asked.word[i] = (size_t)body[2 + 2 * i] << 8 | body[3 + 2 * i];
@@ -53,16 +54,27 @@ static void hint(struct station *s, const char *from, uint8_t asked) {
         s->unit.setup.unit, asked, memchr(s->unit.list, asked, s->unit.list_len) ? " --broadcast none" : "");
 }
 
+/* Nor would a tester that sends a-f know why it gets no reply. */
+static void hint_lower_case(struct station *s, const char *from, const uint8_t *text, size_t len) {
+    uint8_t body[255];
+    if (s->hinted_lower_case || s->unit.setup.hex != DALONJANG_STRICT) return;
+    if (dalonjang_parse_ascii_frame(text, len, len, body, sizeof body, 0, DALONJANG_STRICT).kind == 0) return;
+    if (dalonjang_parse_ascii_frame(text, len, len, body, sizeof body, 0, DALONJANG_LENIENT).kind != 0) return;
+    s->hinted_lower_case = 1;
+    complain("%s sends digits in lower case and gets no reply (--hex lenient would serve it)", from);
+}
+
 /* What a frame leaves behind besides its reply: counts, cells to be saved, a hint, a line in the log. */
 static struct dalonjang_result noted(struct station *s, const char *from, const uint8_t *frame, size_t len,
     uint8_t *reply, struct dalonjang_result r) {
     uint8_t transport = s->unit.setup.transport;
     struct written written = {0, 0, 0};
-    struct request asked = request_of(transport, frame, len);
+    struct request asked = request_of(&s->unit.setup, frame, len);
     int done = r.outcome == DALONJANG_ANSWERED || r.outcome == DALONJANG_BROADCAST_DONE;
     if (done) written = written_by(asked);
     if (transport == DALONJANG_TCP && (r.outcome == DALONJANG_FOREIGN || r.outcome == DALONJANG_BROADCAST_IGNORED))
         hint(s, from, asked.unit);
+    if (transport == DALONJANG_ASCII && r.outcome == DALONJANG_FRAME_BROKEN) hint_lower_case(s, from, frame, len);
     s->served[r.outcome]++;
     s->unsaved |= done && (asked.function < 1 || asked.function > 4);
     log_frame(s->log, from, frame, len, r, written, reply);

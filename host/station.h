@@ -14,6 +14,7 @@ struct station {
     struct image image; /* whose database is NULL where there is none */
     int unsaved;        /* a frame was served since the image was saved that may have changed cells */
     int hinted[256];    /* of these unit numbers it was said that nobody answers them */
+    int hinted_lower_case;
     unsigned long served[OUTCOMES];
 };
 

@@ -13,7 +13,7 @@
  * State. There is none: no allocation, no static data, no input or output. Every call is reentrant and may run in any
  *   thread or interrupt, as long as nobody else uses the lent buffers meanwhile.
  * Stack. Leave 1 KiB for a call, and 2 for one that asks. dalonjang_drive takes the most: up to 950 bytes on cortex-m0,
- *   900 on cortex-m3, 900 on cortex-m4, 800 on armv7, 750 on x86_64, 750 on aarch64; of those that ask
+ *   900 on cortex-m3, 900 on cortex-m4, 750 on armv7, 800 on x86_64, 750 on aarch64; of those that ask
  *   dalonjang_generate_set: up to 1650 bytes on cortex-m0, 1550 on cortex-m3, 1550 on cortex-m4, 1300 on armv7, 1300 on
  *   x86_64, 1250 on aarch64; arguments that lie on the stack (at most 104) come on top. No recursion.
  * Interrupts. A call may be interrupted, and may be made in an interrupt that keeps what any C function may change. On
@@ -49,13 +49,21 @@ extern "C" {
 #endif
 
 /* Of this header and the library that comes with it. A call that is there stays as it is within a major number. */
-#define DALONJANG_VERSION "1.0.0"
+#define DALONJANG_VERSION "2.0.0"
 
 /* How frames travel. Any other number is refused: 10 before all else. */
 enum dalonjang_transport {
     DALONJANG_RTU = 0,   /* bytes, then the CRC, low byte first */
     DALONJANG_ASCII = 1, /* a colon, pairs of digits 0-9 A-F, the last pair the LRC, CR, LF */
     DALONJANG_TCP = 2    /* transaction, zero, length, then bytes without a check */
+};
+
+/* How the digits of ASCII text that comes in may be written; what goes out is always in capitals, and a reply to whoever
+ * asks is read strictly. Any other number is refused: BAD_SETUP from the driver, whatever the transport, and OOB before
+ * all else from the three calls that take it as `hex`. */
+enum dalonjang_hex {
+    DALONJANG_STRICT = 0, /* 0-9 and A-F, as the Modbus document and the crate have it; a-f is FRAME_BROKEN */
+    DALONJANG_LENIENT = 1 /* a-f too, each digit in either case: the same text, and so the same request */
 };
 
 /* The least room for a reply; with less the outcome is DALONJANG_NO_ROOM, whatever the request. */
@@ -81,7 +89,8 @@ enum dalonjang_outcome {
     DALONJANG_WRONG_LENGTH = 7,      /* the length does not fit the function */
     DALONJANG_BAD_FUNCTION = 8,      /* function 128 to 255: no request */
     DALONJANG_NO_ROOM = 9,           /* the lent reply buffer is under 260 bytes, or 511 for ASCII */
-    DALONJANG_BAD_SETUP = 10,        /* transport above 2, more than 65,536 cells, or a table too short for its cells */
+    DALONJANG_BAD_SETUP = 10,        /* transport above 2, hex above 1, more than 65,536 cells, or a table too short
+                                      * for its cells */
     DALONJANG_BAD_REQUEST = 11,      /* dalonjang_parse_response alone: what was sent is no request */
     DALONJANG_NOT_MY_REPLY = 12,     /* dalonjang_parse_response alone: no reply to this request */
     DALONJANG_NOTHING_HELD = 13      /* of dalonjang_quiet alone: no byte was held, and nothing is done */
@@ -101,10 +110,11 @@ struct dalonjang_result {
     uint8_t code;    /* enum dalonjang_code; 0 unless outcome is EXCEPTION or BROADCAST_IGNORED */
 };
 
-/* What a unit is, in numbers. What an initializer does not name is zero: RTU, unit 0, a table without cells. */
+/* What a unit is, in numbers. What an initializer does not name is zero: RTU, unit 0, strict, a table without cells. */
 struct dalonjang_setup {
     uint8_t transport; /* enum dalonjang_transport */
     uint8_t unit;      /* our unit number */
+    uint8_t hex;       /* enum dalonjang_hex; of use on ASCII alone, but another number is refused on all three */
     size_t coil_cells, discrete_cells, holding_cells, input_cells; /* how many cells each table has, 0 to 65,536 */
 };
 
@@ -174,7 +184,7 @@ enum dalonjang_kind {
     DALONJANG_KIND_NO_ROOM = 9,      /* the lent buffer is shorter than the frame */
     DALONJANG_KIND_BAD_SETUP = 10,   /* transport above 2 */
     DALONJANG_KIND_BAD_REQUEST = 11, /* nothing that may be asked */
-    DALONJANG_KIND_OOB = 21,         /* more bytes are needed, or there is no room for them */
+    DALONJANG_KIND_OOB = 21,         /* more bytes are needed, or there is no room for them; or hex above 1 */
     DALONJANG_KIND_FRAME_BROKEN = 23 /* not the beginning of a frame, or not a digit */
 };
 
@@ -227,11 +237,13 @@ static inline struct dalonjang_result dalonjang_serve_quiet(const struct dalonja
  *
  * frame          what has come so far, as sent; more than is needed does no harm (on ASCII, if it is text too).
  * proto          enum dalonjang_transport.
+ * hex            enum dalonjang_hex: whether a-f are digits of ASCII text. Another number is OOB before all else, also
+ *                where proto is above 2.
  * VALUE          the length of the whole frame as sent, check, header and CR LF included; at most 255.
  * OOB            too little has come: RTU needs 2 bytes, 7 for functions 15 and 16; ASCII the colon and as many pairs;
  *                TCP 6. ASCII also where a digit stands alone, or 255 pairs are followed by anything.
  * FRAME_BROKEN   the frame would be longer than 255 (byte count above 246 on RTU, 118 on ASCII; TCP length above 249),
- *                the TCP protocol number is not zero, or an ASCII character is no digit (lower case is none).
+ *                the TCP protocol number is not zero, or an ASCII character is no digit.
  * BAD_SETUP      proto above 2.
  * An unknown function is guessed as six bytes between header and check. Nothing is written in any case.
  *
@@ -241,25 +253,28 @@ static inline struct dalonjang_result dalonjang_serve_quiet(const struct dalonja
  * first; a number outside 2 to 254 there is no Modbus frame. On ASCII go to the LF: a line may have 511 characters. On
  * RTU the silence of the line ends a frame; there its limit costs only a write that is refused anyway (byte counts
  * above 246). */
-struct dalonjang_answer dalonjang_guess_request_frame_len(const uint8_t *frame, size_t frame_len, uint8_t proto);
+struct dalonjang_answer dalonjang_guess_request_frame_len(const uint8_t *frame, size_t frame_len, uint8_t proto,
+    uint8_t hex);
 
 /* The same for a response, for whoever asks: functions 1 to 4 by the byte count in the third byte (at most 250 on RTU,
  * 122 on ASCII), an exception (function 128 and above) from two bytes on, all others from three bytes on. A function
  * below 128 that the crate does not know, so 22 and 23 too, is FRAME_BROKEN. Nothing is written in any case. */
-struct dalonjang_answer dalonjang_guess_response_frame_len(const uint8_t *buf, size_t buf_len, uint8_t proto);
+struct dalonjang_answer dalonjang_guess_response_frame_len(const uint8_t *buf, size_t buf_len, uint8_t proto,
+    uint8_t hex);
 
 /* Turns Modbus ASCII text into bytes, all of a line or the next part of one.
  *
  * data           the text, data_size bytes of it, of which the first data_len are taken. A colon at the start is
  *                skipped; LF, CR or NUL ends the text.
  * frame_buf      where the bytes go, the first to frame_buf[frame_pos].
+ * hex            enum dalonjang_hex: whether a-f are digits. Another number is OOB before all else, frame_buf as lent.
  * VALUE          how many bytes were written.
  * OOB            no data; data_len beyond data_size and no end before; a digit alone at the end of the data; no room in
  *                frame_buf; or position 255 reached with text left (looked at before the text's end is).
- * FRAME_BROKEN   a character that is not 0-9 or A-F, also as the second of a pair.
+ * FRAME_BROKEN   a character that is no digit, also as the second of a pair.
  * In every case, refusals included, the bytes decoded so far stand in frame_buf and its other bytes are as lent. */
 struct dalonjang_answer dalonjang_parse_ascii_frame(const uint8_t *data, size_t data_size, size_t data_len,
-    uint8_t *frame_buf, size_t frame_buf_len, uint8_t frame_pos);
+    uint8_t *frame_buf, size_t frame_buf_len, uint8_t frame_pos, uint8_t hex);
 
 /* Turns bytes (the LRC among them) into a line of Modbus ASCII: a colon, a pair of digits for each, CR, LF.
  *

@@ -3,7 +3,8 @@
  * table with what is expected; the input must be as it was. Each of the three ends at a page that cannot be touched,
  * every fifth time it begins after one; the bytes on the free side must be as they were.
  * Status: 0 all equal and at least N calls, 1 a difference, 2 a short or malformed stream.
- * Built with -DFAULT=1 to 23 that call is answered slightly wrong, to show that a difference is seen. */
+ * Built with -DFAULT=1 to 23 that call is answered slightly wrong, to show that a difference is seen; with 24 to 26
+ * calls 5, 7 and 8 go wrong by the switch for lower case. */
 #include "../include/dalonjang.h"
 #include "../tests/fence.h"
 #include "probe.h"
@@ -12,6 +13,7 @@
 #ifndef FAULT
 #define FAULT 0
 #endif
+#define SPOILT (FAULT == 24 ? 5 : FAULT == 25 ? 7 : FAULT == 26 ? 8 : FAULT) /* the call that goes wrong */
 #define CALLS 24 /* one more than the last call number */
 
 _Static_assert(sizeof(size_t) == 8 && sizeof(struct probe_answer) == 16, "x86-64");
@@ -26,7 +28,7 @@ static const char *const short_name[CALLS] = {"", "crc", "lrc", "chr_to_hex", "h
     "get_discretes", "set_coils", "get_holding", "set_holding", "get_holdings", "get_inputs", "set_holdings"};
 
 static struct record {
-    uint8_t call, kind;
+    uint8_t call, kind, hex;
     uint16_t small, reg;
     size_t data_len, len, size;          /* size: new_len, n or cells */
     size_t n, m, t, value;               /* n bytes of input, m of buffer, t of table */
@@ -46,7 +48,7 @@ static int short_record(const uint8_t *head) {
     record.t = 0;
     record.kind = head[8];
     record.value = big_endian(head + 9, 2);
-    return got_bytes(record.input, record.n) && got_bytes(record.buffer, record.m);
+    return got_bytes(&record.hex, 1) && got_bytes(record.input, record.n) && got_bytes(record.buffer, record.m);
 }
 
 static int writes_a_table(void) {
@@ -88,18 +90,24 @@ static int next_record(void) {
 
 static struct probe_answer ported(struct dalonjang_answer a) { return (struct probe_answer){a.value, a.kind}; }
 
+/* A digit as the crate has it: its value alone, and a small letter is none. */
+static struct probe_answer strictly(struct probe_answer a) {
+    if (a.value >= 32) return (struct probe_answer){0, DALONJANG_KIND_FRAME_BROKEN};
+    return (struct probe_answer){a.value % 16, a.kind};
+}
+
 static struct probe_answer ask(const uint8_t *input, uint8_t *buffer, uint8_t *table) {
     const struct record *r = &record;
-    uint8_t small = (uint8_t)r->small;
+    uint8_t small = (uint8_t)r->small, hex = r->hex;
     switch (r->call) {
     case 1: return (struct probe_answer){probe_calc_crc16(input, r->n, small), 0};
     case 2: return probe_calc_lrc(input, r->n, small);
-    case 3: return probe_chr_to_hex(small);
+    case 3: return hex == DALONJANG_STRICT ? strictly(probe_chr_to_hex(small)) : probe_chr_to_hex(small);
     case 4: return probe_hex_to_chr(small);
-    case 5: return ported(dalonjang_parse_ascii_frame(input, r->n, r->data_len, buffer, r->m, small));
+    case 5: return ported(dalonjang_parse_ascii_frame(input, r->n, r->data_len, buffer, r->m, small, hex));
     case 6: return ported(dalonjang_generate_ascii_frame(input, r->n, buffer, r->m));
-    case 7: return ported(dalonjang_guess_request_frame_len(input, r->n, small));
-    case 8: return ported(dalonjang_guess_response_frame_len(input, r->n, small));
+    case 7: return ported(dalonjang_guess_request_frame_len(input, r->n, small, hex));
+    case 8: return ported(dalonjang_guess_response_frame_len(input, r->n, small, hex));
     case 9: return probe_push(buffer, r->m, r->len, small);
     case 10: return probe_extend(buffer, r->m, r->len, input, r->n);
     case 11: return probe_resize(buffer, r->m, r->len, r->size, small);
@@ -123,15 +131,15 @@ static struct probe_answer spoilt(const uint8_t *input, uint8_t *buffer, uint8_t
     const struct record *r = &record;
     size_t at; /* where the text goes on at position 255 */
     size_t end = r->reg + (size_t)r->small, place = r->reg / 8, bit = r->reg % 8;
-    switch (FAULT == r->call ? FAULT : 0) {
+    switch (SPOILT == r->call ? FAULT : 0) {
     case 1: /* the CRC of nothing is 0 */
         if (r->n == 0 || r->small == 0) a.value = 0;
         break;
     case 2: /* 256 less the sum, not wrapped */
         if (a.kind == 0 && a.value == 0) a.value = 256;
         break;
-    case 3: /* lower-case digits are taken */
-        if (r->small >= 'a' && r->small <= 'f') a = (struct probe_answer){r->small - 'a' + 10u, 0};
+    case 3: /* a small letter is told as a capital */
+        if (a.value >= 32) a.value -= 16;
         break;
     case 4: /* 201 is taken, wrapped */
         if (r->small == 201) a = (struct probe_answer){0, 0};
@@ -203,6 +211,19 @@ static struct probe_answer spoilt(const uint8_t *input, uint8_t *buffer, uint8_t
         if (r->n % 2 == 1 && r->reg + r->n / 2 <= r->size && r->size <= r->t / 2)
             memcpy(table + 2u * r->reg, input, r->n - 1);
         break;
+    case 24: /* a strict line may have lower case */
+        if (r->hex == DALONJANG_STRICT) {
+            uint8_t pos = (uint8_t)r->small;
+            a = ported(dalonjang_parse_ascii_frame(input, r->n, r->data_len, buffer, r->m, pos, DALONJANG_LENIENT));
+        }
+        break;
+    case 25: /* the transport is looked at before the switch */
+        if (r->hex > DALONJANG_LENIENT && r->small > DALONJANG_TCP) a.kind = DALONJANG_KIND_BAD_SETUP;
+        break;
+    case 26: /* another switch is lenient */
+        if (r->hex > DALONJANG_LENIENT)
+            a = ported(dalonjang_guess_response_frame_len(input, r->n, (uint8_t)r->small, DALONJANG_LENIENT));
+        break;
     }
     return a;
 }
@@ -216,7 +237,7 @@ static void print_after(const char *name, const uint8_t *expected, const uint8_t
 static void print_call(const char *what) {
     const struct record *r = &record;
     printf("%s at record %lu: call %u, %s, ", what, number, r->call, full_name[r->call]);
-    if (r->call <= 8) printf("small argument %u, data_len %zu", r->small, r->data_len);
+    if (r->call <= 8) printf("small argument %u, switch %u, data_len %zu", r->small, r->hex, r->data_len);
     else if (r->call <= 13) printf("len %zu, value %u, new_len or n %zu", r->len, r->small, r->size);
     else printf("cells %zu, reg %u, value or count %u, len %zu", r->size, r->reg, r->small, r->len);
     printf(", input of %zu, buffer of %zu, table of %zu", r->n, r->m, r->t);

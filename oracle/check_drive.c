@@ -2,20 +2,20 @@
  * vectors/src/drive/record.rs) and compares outcome, code, length and every lent byte with what is expected. Each
  * buffer stands against a page that cannot be touched.
  * Status: 0 all equal and at least N calls, 1 a difference, 2 a short or malformed stream.
- * Built with -DFAULT=1 to 7 or 10 to 12 the library's answer is made slightly wrong (../tests/asked.h), to show that it
+ * Built with -DFAULT=1 to 7 or 10 to 14 the library's answer is made slightly wrong (../tests/asked.h), to show that it
  * is seen. */
 #include "../tests/asked.h"
 #include "../tests/fence.h"
 #include "stream.h"
 
-enum { LIST = TABLES, FRAME, REPLY, BUFFERS, HEAD = 45, OUTCOMES = 9 };
+enum { LIST = TABLES, FRAME, REPLY, BUFFERS, HEAD = 46, OUTCOMES = 9 };
 
 static const char *const outcome_name[OUTCOMES] = {"answered", "broadcast done", "exception", "broadcast ignored",
     "foreign", "frame broken", "frame check", "wrong length", "bad function"};
 static const char *const buffer_name[BUFFERS] = {"coils", "discretes", "holdings", "inputs", "list", "frame", "reply"};
 
 static struct record {
-    uint8_t transport, unit, otherwise, outcome, code; /* otherwise: than the crate */
+    uint8_t transport, unit, hex, otherwise, outcome, code; /* otherwise: than the crate */
     size_t len[BUFFERS], cells[TABLES], reply_len;
     uint8_t before[BUFFERS][ROOM], after[BUFFERS][ROOM];
 } record;
@@ -27,6 +27,7 @@ static int got_bytes(uint8_t *bytes, size_t len) { return len <= ROOM && fread(b
 static int rest_of(const uint8_t *head) {
     struct record *r = &record;
     r->transport = head[0], r->unit = head[1], r->otherwise = head[3], r->outcome = head[4], r->code = head[5];
+    r->hex = head[45];
     r->len[LIST] = head[2];
     r->len[FRAME] = big_endian(head + 6, 2);
     r->len[REPLY] = big_endian(head + 8, 2);
@@ -58,8 +59,8 @@ static int next_record(void) {
 
 static void print_call(const char *what) {
     const struct record *r = &record;
-    printf("%s at record %lu: transport %u, unit %u, cells %zu %zu %zu %zu", what, number, r->transport, r->unit,
-           r->cells[0], r->cells[1], r->cells[2], r->cells[3]);
+    printf("%s at record %lu: transport %u, unit %u, switch %u, cells %zu %zu %zu %zu", what, number, r->transport,
+           r->unit, r->hex, r->cells[0], r->cells[1], r->cells[2], r->cells[3]);
     for (int i = 0; i < REPLY; i++) print_bytes(buffer_name[i], r->before[i], r->len[i]);
     printf("\n  expected: outcome %u, code %u, reply of %zu bytes (%s)", r->outcome, r->code, r->reply_len,
            r->otherwise == 0 ? "the crate's" : "document 01's, not the crate's");
@@ -90,8 +91,8 @@ int main(int argc, char **argv) {
             lent[i] = (struct slice){place(room[i], record.len[i], number), record.len[i]};
             memcpy(lent[i].bytes, record.before[i], record.len[i]);
         }
-        struct asked a = {.transport = record.transport, .unit = record.unit, .list = lent[LIST], .frame = lent[FRAME],
-                          .reply = lent[REPLY]};
+        struct asked a = {.transport = record.transport, .unit = record.unit, .hex = record.hex, .list = lent[LIST],
+                          .frame = lent[FRAME], .reply = lent[REPLY]};
         memcpy(a.table, lent, sizeof a.table);
         memcpy(a.cells, record.cells, sizeof a.cells);
         struct dalonjang_result r = drive(&a);

@@ -15,7 +15,7 @@ struct probe_answer {
 
 uint16_t probe_calc_crc16(const uint8_t *frame, size_t frame_len, uint8_t data_length);
 struct probe_answer probe_calc_lrc(const uint8_t *frame, size_t frame_len, uint8_t data_length);
-struct probe_answer probe_chr_to_hex(uint8_t c);
+struct probe_answer probe_chr_to_hex(uint8_t c); /* value: 16 x kind + digit; 0 number, 1 capital, 2 small letter */
 struct probe_answer probe_hex_to_chr(uint8_t h);
 
 /* The bounded response: len of the response_len lent bytes are held. value: the new len */

@@ -1,6 +1,6 @@
 /* One call of dalonjang_drive as a record, for the programs that test it, and the same by the collector. Built with
- * -DFAULT=1 to 7 or 10 to 12 the driver's answer is made slightly wrong on its way back, and the collector's with 8 and
- * 9, to show that a program sees it. */
+ * -DFAULT=1 to 7 or 10 to 15 the driver's answer is made slightly wrong on its way there or back, and the collector's
+ * with 8 and 9, to show that a program sees it. */
 #ifndef ASKED_H
 #define ASKED_H
 #include "../include/dalonjang.h"
@@ -18,7 +18,7 @@ struct slice {
 };
 
 struct asked {
-    uint8_t transport, unit;
+    uint8_t transport, unit, hex;
     struct slice list, table[TABLES], frame, reply;
     size_t cells[TABLES];
 };
@@ -26,8 +26,9 @@ struct asked {
 /* Document 01's driver, written plainly (model.c). */
 struct dalonjang_result model_drive(const struct asked *a);
 uint16_t model_crc(const uint8_t *bytes, size_t n);
-/* A frame's bytes from the unit on, without check, go to `body`. Answers 0 where the frame is right, else the outcome. */
-int model_unwrap(uint8_t transport, const uint8_t *frame, size_t len, uint8_t *body, size_t *n);
+/* A frame's bytes from the unit on, without check, go to `body`. Answers 0 where the frame is right, else the outcome.
+ * With hex 1 the digits of ASCII text may stand in either case. */
+int model_unwrap(uint8_t transport, uint8_t hex, const uint8_t *frame, size_t len, uint8_t *body, size_t *n);
 /* Puts header and check around a body; answers the frame's length. The tag is TCP's transaction number. */
 size_t model_wrap(uint8_t transport, const uint8_t *tag, const uint8_t *body, size_t n, uint8_t *frame);
 /* Whether a body has the length that a request of its function, which is served, has. */
@@ -54,8 +55,25 @@ static inline void keep_old(const struct asked *a, uint8_t *old) {
     if (from + bytes <= a->table[HOLDINGS].len) memcpy(old, a->table[HOLDINGS].bytes + from, bytes);
 }
 
-/* The answer as a slightly wrong driver would give it; fault 3 on RTU, the others on TCP. */
+static inline int is_small(uint8_t c) { return c >= 'a' && c <= 'f'; }
+
+/* A reply as a driver would write it that goes by the tester: in lower case where the request has such a digit. */
+static inline void answer_small(const struct asked *a, size_t length) {
+    int small = 0;
+    for (size_t i = 0; i < a->frame.len; i++) small |= is_small(a->frame.bytes[i]);
+    for (size_t i = 0; small && i < length; i++)
+        if (a->reply.bytes[i] >= 'A') a->reply.bytes[i] += 'a' - 'A';
+}
+
+/* The switch as a driver would have it that is always lenient, or that looks at it where text is read alone. */
+static inline uint8_t switch_of(const struct asked *a) {
+    if (FAULT == 13 && a->hex == DALONJANG_STRICT) return DALONJANG_LENIENT;
+    return FAULT == 15 && a->transport != DALONJANG_ASCII ? DALONJANG_STRICT : a->hex;
+}
+
+/* The answer as a slightly wrong driver would give it; fault 3 on RTU, 14 on ASCII, the others on TCP. */
 static inline struct dalonjang_result spoilt(const struct asked *a, struct dalonjang_result r, const uint8_t *old) {
+    if (FAULT == 14 && a->transport == DALONJANG_ASCII) answer_small(a, r.length);
     if (FAULT == 0 || a->transport != (FAULT == 3 ? DALONJANG_RTU : DALONJANG_TCP) || a->frame.len < 4
         || (FAULT != 3 && a->frame.len < 12)) return r;
     const uint8_t *body = a->frame.bytes + (FAULT == 3 ? 0 : 6);
@@ -117,7 +135,8 @@ static inline struct dalonjang_result spoilt(const struct asked *a, struct dalon
 static inline struct dalonjang_unit unit_of(const struct asked *a) {
     const struct slice *t = a->table;
     return (struct dalonjang_unit){
-        {a->transport, a->unit, a->cells[COILS], a->cells[DISCRETES], a->cells[HOLDINGS], a->cells[INPUTS]},
+        {a->transport, a->unit, switch_of(a), a->cells[COILS], a->cells[DISCRETES], a->cells[HOLDINGS],
+         a->cells[INPUTS]},
         a->list.bytes, a->list.len, t[COILS].bytes, t[COILS].len, t[DISCRETES].bytes, t[DISCRETES].len,
         t[HOLDINGS].bytes, t[HOLDINGS].len, t[INPUTS].bytes, t[INPUTS].len};
 }

@@ -1,11 +1,12 @@
 /* fuzz [N [SEED]]: N random calls of dalonjang_drive (1,000,000 if not said): setups on both sides of every limit,
- * frames built right and then damaged, and plain noise. Each frame is then cut into groups, offered to a collector and
- * closed by a quiet line, which must come to the same on RTU, and to BadSetup elsewhere. After each call it is checked
+ * frames built right and then damaged, ASCII in either case, and plain noise. Each frame is then cut into groups, offered
+ * to a collector and closed by a quiet line, which must come to the same on RTU, and to BadSetup elsewhere. After each
+ * call it is checked
  *   - that nothing outside the lent buffers was touched: every buffer stands against a page that cannot be,
  *   - what the header promises of every call, without asking what the right answer is,
  *   - that outcome, code, reply and tables are those of the model, document 01's driver written plainly.
- * Status: 0 all right and, from 100,000 calls on, every outcome came up and every function was served; 1 a difference; 2
- * wrong arguments. */
+ * Status: 0 all right and, from 100,000 calls on, every outcome came up and every function was served, also in lower
+ * case; 1 a difference; 2 wrong arguments. */
 #include "asked.h"
 #include "chance.h"
 #include "fence.h"
@@ -46,6 +47,7 @@ static void lend(int which, size_t len) {
 static void random_setup(void) {
     call.transport = (uint8_t)(percent(1) ? PICK(3, 4, 128, 255) : below(3));
     call.unit = (uint8_t)(percent(60) ? 1 : chance());
+    call.hex = (uint8_t)(percent(1) ? PICK(2, 3, 128, 255) : below(2));
     for (int t = 0; t < TABLES; t++) {
         int bits = t == COILS || t == DISCRETES, large = below(bits ? 500 : 4000) == 0;
         size_t cells = large ? near(65535, 1) : percent(20) ? PICK(125, 126, 1968, 1969, 2000, 2001, 2007) : below(140);
@@ -127,6 +129,13 @@ static size_t sent(uint8_t *f) {
     return model_wrap(call.transport, tag, body, body_len, f);
 }
 
+/* Text in lower case: all of it, about half of its letters, or one. */
+static void random_case(uint8_t *text, size_t n) {
+    size_t how = below(3), one = below(n);
+    for (size_t i = 0; i < n; i++)
+        if (text[i] >= 'A' && text[i] <= 'F' && (how == 0 || (how == 1 ? percent(50) : i == one))) text[i] += 'a' - 'A';
+}
+
 static void random_frame(void) {
     static uint8_t f[2048];
     size_t n;
@@ -134,12 +143,13 @@ static void random_frame(void) {
     if (percent(3)) { /* noise */
         n = below(percent(80) ? 20 : 600);
         for (size_t i = 0; i < n; i++)
-            f[i] = percent(50) ? (uint8_t)chance() : (uint8_t)":\r\n0123456789ABCDEFa"[below(20)];
+            f[i] = percent(50) ? (uint8_t)chance() : (uint8_t)":\r\n0123456789ABCDEFabcdef/@G`g"[below(30)];
     } else {
         random_body();
         if (percent(8)) damage(body, &body_len); /* the check is made afterwards, and is right */
         if (percent(2)) body_len = PICK(254, 255, 298); /* RTU frames of 256, 257 and 300 bytes */
         n = sent(f);
+        if (call.transport == DALONJANG_ASCII && percent(call.hex == DALONJANG_STRICT ? 4 : 50)) random_case(f, n);
         if (percent(8)) damage(f, &n);
         if (percent(1) && n > 9) memcpy(f + n - 3, (const char *[]){"\n\r0", "a\r\n", "\r\n\0"}[below(3)], 3);
     }
@@ -150,8 +160,8 @@ static void random_frame(void) {
 /* --- what must hold -------------------------------------------------------------------------------------------- */
 
 static void different(const char *what, const struct dalonjang_result *r) {
-    printf("different at call %lu (seed %lu): %s\n  transport %u, unit %u, cells %zu %zu %zu %zu", number, seed, what,
-           call.transport, call.unit, call.cells[0], call.cells[1], call.cells[2], call.cells[3]);
+    printf("different at call %lu (seed %lu): %s\n  transport %u, unit %u, switch %u, cells %zu %zu %zu %zu", number,
+           seed, what, call.transport, call.unit, call.hex, call.cells[0], call.cells[1], call.cells[2], call.cells[3]);
     if (r != NULL) printf("; outcome %u, code %u, length %zu", r->outcome, r->code, r->length);
     for (int i = 0; i < BUFFERS; i++) {
         print_bytes(buffer_name[i], before[i], buffer(&call, i)->len);
@@ -163,6 +173,13 @@ static void different(const char *what, const struct dalonjang_result *r) {
 }
 
 static void touched(const char *what) { different(what, NULL); }
+
+/* On ASCII: whether a digit stands there in lower case. */
+static int has_small(const uint8_t *text, size_t n) {
+    for (size_t i = 0; i < n && call.transport == DALONJANG_ASCII; i++)
+        if (is_small(text[i])) return 1;
+    return 0;
+}
 
 /* Byte i of the request in a served frame, from the unit on. */
 static uint8_t request_byte(size_t i) {
@@ -206,6 +223,7 @@ static const char *broken_promise(struct dalonjang_result r) {
     if (coded ? r.code > 3 || (r.code == 0 && replied) : r.code != 0) return "a code that cannot be";
     if (memcmp(call.reply.bytes + r.length, before[REPLY] + r.length, call.reply.len - r.length) != 0)
         return "reply bytes after its length changed";
+    if (has_small(call.reply.bytes, r.length)) return "a reply that is not in capitals";
     if (done) table = written(&from, &to);
     for (int i = 0; i < REPLY; i++)
         if (i != table && memcmp(buffer(&call, i)->bytes, before[i], buffer(&call, i)->len) != 0)
@@ -299,7 +317,8 @@ static void collect(struct dalonjang_result r) {
 
 int main(int argc, char **argv) {
     static const uint8_t functions[] = {1, 2, 3, 4, 5, 6, 15, 16, 22, 23};
-    unsigned long calls = argc > 1 ? strtoul(argv[1], NULL, 10) : 1000000, count[OUTCOMES] = {0}, served[256] = {0};
+    unsigned long calls = argc > 1 ? strtoul(argv[1], NULL, 10) : 1000000, count[OUTCOMES] = {0};
+    unsigned long served[2][256] = {{0}}; /* in capitals, and with a digit in lower case */
     if (argc > 2) seed = strtoul(argv[2], NULL, 10);
     if (calls == 0 || argc > 3) {
         fputs("usage: fuzz [N [SEED]]\n", stderr);
@@ -316,7 +335,7 @@ int main(int argc, char **argv) {
         struct dalonjang_result r = drive(&call);
         check(r);
         count[r.outcome]++;
-        if (r.outcome == DALONJANG_ANSWERED) served[request_byte(1)]++;
+        if (r.outcome == DALONJANG_ANSWERED) served[has_small(before[FRAME], call.frame.len)][request_byte(1)]++;
         lend_collector();
         collect(r);
         for (int i = 0; i < BUFFERS; i++) memset(buffer(&call, i)->bytes, UNTOUCHED, buffer(&call, i)->len);
@@ -329,9 +348,9 @@ int main(int argc, char **argv) {
             printf("the outcome \"%s\" never came up\n", outcome_name[o]);
             return 1;
         }
-    for (size_t i = 0; i < sizeof functions; i++)
-        if (served[functions[i]] == 0 && calls >= 100000) {
-            printf("function %u was never served\n", functions[i]);
+    for (size_t i = 0; i < 2 * sizeof functions; i++)
+        if (served[i % 2][functions[i / 2]] == 0 && calls >= 100000) {
+            printf("function %u was never served%s\n", functions[i / 2], i % 2 == 1 ? " in lower case" : "");
             return 1;
         }
     return 0;

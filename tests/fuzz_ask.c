@@ -263,7 +263,7 @@ static size_t cell(int tab, size_t at) {
 static size_t exchanged(size_t len, uint16_t *shown) {
     static uint8_t reply[511];
     struct dalonjang_unit unit = {
-        {call.to.proto, call.to.unit_id, 65536, 65536, 65536, 65536}, NULL, 0, table[COILS], 8192,
+        {call.to.proto, call.to.unit_id, (uint8_t)below(2), 65536, 65536, 65536, 65536}, NULL, 0, table[COILS], 8192,
         table[DISCRETES], 8192, table[HOLDINGS], 131072, table[INPUTS], 131072};
     struct dalonjang_result r = dalonjang_serve(&unit, call.request.bytes, len, reply, sizeof reply);
     struct asking a = {.call = READ, .to = call.to, .request = {call.request.bytes, len}, .response = {reply, r.length},

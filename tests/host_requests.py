@@ -1,6 +1,6 @@
 """Requests to the server and their replies, over each transport."""
-from preset import Preset, READ, exchange
-from serving import Client, Line, Server, ascii_line, asked, check, exchanged, masked, rtu, soon, tcp, words
+from preset import Preset, READ, READ_REPLY, exchange
+from serving import Client, Line, Server, ascii_line, asked, check, exchanged, masked, rtu, same, soon, tcp, words
 
 
 def rows(most_coils, most_registers):
@@ -75,6 +75,44 @@ def test_ascii_requests(program):
     with Line() as line, Preset(program, "--ascii", line.path):
         for body, reply in rows(1968, 123):
             exchange(line, ascii_line, body, reply)
+
+
+def mixed(text):
+    """The first letter in lower case, the second not, and so on."""
+    small = [n for n, c in enumerate(text) if 65 <= c <= 70][::2]
+    return bytes(c + 32 if n in small else c for n, c in enumerate(text))
+
+
+def test_lower_case(program):
+    """A tester that sends a-f, in all of a line or here and there: with --hex lenient it is served as in capitals, and
+    answered in capitals; the log has the frame as it was sent. Otherwise its frames are broken and go unanswered, and
+    why is said, once; of other broken frames it is not."""
+    word = " sends digits in lower case and gets no reply (--hex lenient would serve it)"
+    for spelt in (bytes.lower, mixed):
+        with Line() as line, Preset(program, "--ascii", line.path, "--hex", "lenient") as server, \
+                Client(server.port) as client:
+            for body, reply in rows(1968, 123):
+                exchange(line, ascii_line, body, reply, spelt)
+            exchange(line, ascii_line, READ, READ_REPLY)
+            exchange(client, tcp, READ, READ_REPLY)
+            write, reply = asked(16, 12, 2, words(0xABCD, 0xEF01)), asked(16, 12, 2)
+            exchange(line, ascii_line, write, reply, spelt)
+            same(server.log()[-1], f"ascii {line.path}: {spelt(ascii_line(write)).hex().upper()} Answered, wrote "
+                 f"holdings 12 to 13, reply {ascii_line(reply).hex().upper()}", "the log")
+        for options in ((), ("--hex", "strict")):
+            with Line() as line, Preset(program, "--ascii", line.path, *options) as server:
+                exchange(line, ascii_line, READ, b"", spelt)
+                text = spelt(ascii_line(READ)).hex().upper()
+                same(server.log(), [f"ascii {line.path}: {text} FrameBroken"], "the log")
+                exchange(line, ascii_line, READ, b"", spelt)
+                exchange(line, ascii_line, READ, READ_REPLY)
+                same([said for said in server.output().splitlines() if "lower case" in said],
+                     [f"dalonjang: ascii {line.path}{word}"], "what is said")
+    with Line() as line, Preset(program, "--ascii", line.path) as server:
+        for noise in (b":no frame\r\n", b":0103g\r\n", ascii_line(READ)[:-4] + b"\r\n", b":01a\r\n"):
+            line.send(noise + ascii_line(READ))
+            same(line.receive(len(ascii_line(READ_REPLY))), ascii_line(READ_REPLY), "the reply after noise")
+        check("lower case" not in server.output(), "noise is told as lower case")
 
 
 def test_one_set_of_tables(program):

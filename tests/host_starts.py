@@ -80,6 +80,7 @@ def test_options(program):
              ("--cells", "65537"), ("--coils", "1.5"), ("--address", ""), ("--baud", "9601"), ("--mode", "9N1"),
              ("--silence", "0"), ("--clients", "0"), ("--clients", "257"), ("--patience", "0"), ("--no-tcp",),
              ("--log", ""), ("--image", ""), ("--idle", "60s"), 9 * ("--rtu", "/dev/null"), ("--import", ""),
+             ("--hex",), ("--hex", ""), ("--hex", "2"), ("--hex", "Lenient"), ("--hex", "lenient,strict"),
              ("--unit", "0"), ("--unit", "7", "--broadcast", "6,7"), ("--broadcast", "1"))
     for options in wrong:
         status, text, said = run(program, *options)

@@ -23,14 +23,15 @@ static inline uint8_t as_lent(size_t i) { return (uint8_t)(0x5A + i); }
 static inline struct slice slice(uint8_t *bytes, size_t len) { return (struct slice){len == 0 ? NULL : bytes, len}; }
 
 struct setup {
-    uint8_t unit;
+    uint8_t unit, hex;
     const char *list, *table[TABLES]; /* coils, discretes, holdings, inputs; spare bytes stand here too */
     size_t cells[TABLES];
     int room; /* 0: just enough */
 };
 
-/* on: the transports, r RTU, a ASCII, t TCP. There `ask` and `reply` go from the unit byte on and get header and check;
- * under R, A and T they are the whole frames. Afterwards `table` reads `now` from byte `at` on; all else stays. */
+/* on: the transports, r RTU, a ASCII, t TCP; s ASCII asked in small letters, m with every other letter small. There
+ * `ask` and `reply` go from the unit byte on and get header and check; under R, A and T they are the whole frames.
+ * Afterwards `table` reads `now` from byte `at` on; all else stays. */
 struct row {
     const char *name, *on;
     const struct setup *setup;

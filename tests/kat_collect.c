@@ -4,7 +4,7 @@
 #include "kat.h"
 
 /* Bytes offered: the answer, a kind and how many are held. Without bytes the line falls quiet, on a transport and with
- * room for a reply: the outcome and its code, the reply, and the holdings then. */
+ * room for a reply: the outcome and its code, the reply, and the holdings then; and with a switch for lower case. */
 struct event {
     const char *bytes;
     int kind;
@@ -13,10 +13,12 @@ struct event {
     size_t room;
     int outcome, code;
     const char *reply, *holdings;
+    uint8_t hex;
 };
 
-#define BRINGS(bytes, kind, held) {bytes, kind, held, 0, 0, 0, 0, "", ""}
-#define FALLS(on, room, outcome, code, reply, holdings) {NULL, 0, 0, on, room, outcome, code, reply, holdings}
+#define BRINGS(bytes, kind, held) {bytes, kind, held, 0, 0, 0, 0, "", "", 0}
+#define FALLS(on, room, outcome, code, reply, holdings) {NULL, 0, 0, on, room, outcome, code, reply, holdings, 0}
+#define SWITCHED(hex, outcome, reply, holdings) {NULL, 0, 0, 0, 260, outcome, 0, reply, holdings, hex}
 #define BEFORE "0102 0304 0000 FFFF"
 #define AFTER "0102 0304 1234 FFFF"
 #define GOOD "01 06 0002 1234 257D"
@@ -43,6 +45,9 @@ static const struct {
         BRINGS(GOOD, 0, 8), FALLS(0, 260, 0, 0, GOOD, AFTER)}, 4},
     {"room 259", "00*259", {BRINGS(GOOD, 0, 8), FALLS(0, 259, 9, 0, "", BEFORE), FALLS(0, 260, 13, 0, "", BEFORE)}, 3},
     {"nothing held before all else", "00*259", {FALLS(9, 0, 13, 0, "", BEFORE)}, 1},
+    {"lenient", "00*259", {BRINGS(GOOD, 0, 8), SWITCHED(1, 0, GOOD, AFTER)}, 2},
+    {"switch 2", "00*259", {BRINGS(GOOD, 0, 8), SWITCHED(2, 10, "", BEFORE), SWITCHED(0, 13, "", BEFORE)}, 3},
+    {"nothing held before the switch", "00*259", {SWITCHED(2, 13, "", BEFORE)}, 1},
     {"a wrong check", "00*259", {BRINGS("01 06 0002 1234 257E", 0, 8), FALLS(0, 260, 6, 0, "", BEFORE)}, 2},
     {"three bytes", "00*259", {BRINGS("01 06 00", 0, 3), FALLS(0, 260, 5, 0, "", BEFORE)}, 2},
     {"a collector of 258 bytes", "0008 01 06 0002 1234 257D 00*248", {BRINGS("01", 21, 0),
@@ -84,7 +89,7 @@ void collector_cases(void) {
                 if (e->kind == 0) collected(want, had, bytes, e->held);
                 had = e->held;
             } else {
-                struct asked a = {.transport = (uint8_t)e->transport, .unit = 1, .list = {list, 1},
+                struct asked a = {.transport = (uint8_t)e->transport, .unit = 1, .hex = e->hex, .list = {list, 1},
                     .table = {{coils, 2}, {NULL, 0}, {holdings, 8}, {NULL, 0}}, .reply = slice(reply, e->room),
                     .cells = {16, 0, 4, 0}};
                 for (size_t b = 0; b < sizeof reply; b++) reply[b] = as_lent(b);

@@ -10,7 +10,8 @@
 static struct asked laid(const struct setup *s, int transport, struct slice frame) {
     static uint8_t lent[TABLES][MOST], list[8], room[1024];
     size_t width = s->room < 0 ? 0 : s->room > 0 ? (size_t)s->room : transport == DALONJANG_ASCII ? 511 : 260;
-    struct asked a = {.transport = (uint8_t)transport, .unit = s->unit, .frame = frame, .reply = slice(room, width)};
+    struct asked a = {.transport = (uint8_t)transport, .unit = s->unit, .hex = s->hex, .frame = frame,
+                      .reply = slice(room, width)};
     a.list = slice(list, bytes_of(s->list, list));
     for (int t = 0; t < TABLES; t++) {
         a.table[t] = slice(lent[t], bytes_of(s->table[t], lent[t]));
@@ -69,14 +70,22 @@ size_t wrapped(int transport, const uint8_t *body, size_t n, uint8_t *frame) {
     return len + 2;
 }
 
+/* Of the text's letters so many are left, and the next is made small, from the first on. */
+static void in_small(uint8_t *text, size_t len, size_t left) {
+    size_t letters = 0;
+    for (size_t i = 0; i < len; i++)
+        if (text[i] >= 'A' && text[i] <= 'F' && letters++ % (left + 1) == 0) text[i] += 'a' - 'A';
+}
+
 static void each_of_row(each_case *each, const struct row *row) {
     static uint8_t body[1024], frame[1024], reply_body[1024], reply[1024];
     for (const char *on = row->on; *on != 0; on++) {
         int whole = *on < 'a';
-        int transport = strchr("rR", *on) ? DALONJANG_RTU : strchr("aA", *on) ? DALONJANG_ASCII : DALONJANG_TCP;
+        int transport = strchr("rR", *on) ? DALONJANG_RTU : strchr("tT", *on) ? DALONJANG_TCP : DALONJANG_ASCII;
         size_t n = bytes_of(row->ask, body), m = bytes_of(row->reply, reply_body);
         size_t len = whole ? n : wrapped(transport, body, n, frame);
         size_t want = whole ? m : wrapped(transport, reply_body, m, reply);
+        if (strchr("sm", *on)) in_small(frame, len, *on == 'm');
         struct asked a = laid(row->setup, transport, slice(whole ? body : frame, len));
         each(row, &a, slice(whole ? reply_body : reply, want));
     }

@@ -7,7 +7,7 @@ static const char *const head =
     "# one record a line in hex digits. Made by `kat list` (tests/kat.c, built by bin/driver-runs); not to be\n"
     "# edited by hand.\n"
     "# A record, numbers high byte first:\n"
-    "#   transport (1 byte), unit (1); expected: outcome (1), exception code (1)\n"
+    "#   transport (1 byte), unit (1), switch for lower case (1); expected: outcome (1), exception code (1)\n"
     "#   length of the reply buffer (2)\n"
     "#   the table that changes (1: 0 coils, 1 discretes, 2 holdings, 3 inputs) and the byte from which on (4)\n"
     "#   for each table: length in bytes (4), cells (8), and the byte (1) that fills it behind its front\n"
@@ -35,8 +35,8 @@ void list_case(const struct row *row, const struct asked *a, struct slice reply)
     static uint8_t changed[1024];
     struct slice now = {changed, bytes_of(row->now, changed)};
     struct slice parts[4 + TABLES] = {a->list, a->frame, reply, now};
-    printf("# %u: %s, transport %d\n%02X%02X %02X%02X ", ++checks, row->name, a->transport, a->transport, a->unit,
-           (unsigned)row->outcome, (unsigned)row->code);
+    printf("# %u: %s, transport %d\n%02X%02X%02X %02X%02X ", ++checks, row->name, a->transport, a->transport,
+           a->unit, a->hex, (unsigned)row->outcome, (unsigned)row->code);
     put_number(a->reply.len, 2);
     printf(" %02X", (unsigned)row->table);
     put_number(row->at, 4);

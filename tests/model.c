@@ -1,5 +1,5 @@
-/* Document 01's driver, with document 02's functions 22 and 23, written from the pages and from nothing else: one bit or
- * byte at a time, no cleverness. The fuzz compares the proved library with it. */
+/* Document 01's driver, with document 02's functions 22 and 23 and its switch for lower case, written from the pages and
+ * from nothing else: one bit or byte at a time, no cleverness. The fuzz compares the proved library with it. */
 #include "asked.h"
 #include <string.h>
 
@@ -14,9 +14,14 @@ uint16_t model_crc(const uint8_t *bytes, size_t n) {
     return (uint16_t)crc;
 }
 
-static int digit(uint8_t c) {
-    const char *digits = "0123456789ABCDEF", *at = c == 0 ? NULL : strchr(digits, c);
+static int place_in(const char *digits, uint8_t c) {
+    const char *at = c == 0 ? NULL : strchr(digits, c);
     return at == NULL ? -1 : (int)(at - digits);
+}
+
+static int digit(uint8_t c, uint8_t hex) { /* -1: it is none */
+    int place = place_in("0123456789ABCDEF", c);
+    return place < 0 && hex == 1 ? place_in("0123456789abcdef", c) : place;
 }
 
 static int sum(const uint8_t *bytes, size_t n) {
@@ -25,7 +30,7 @@ static int sum(const uint8_t *bytes, size_t n) {
     return total % 256;
 }
 
-int model_unwrap(uint8_t transport, const uint8_t *f, size_t len, uint8_t *body, size_t *n) {
+int model_unwrap(uint8_t transport, uint8_t hex, const uint8_t *f, size_t len, uint8_t *body, size_t *n) {
     switch (transport) {
     case 0:
         if (len < 4 || len > 256) return 5;
@@ -36,8 +41,9 @@ int model_unwrap(uint8_t transport, const uint8_t *f, size_t len, uint8_t *body,
         if (len < 1 + 6 + 2 || len > 1 + 508 + 2 || len % 2 == 0) return 5;
         if (f[0] != ':' || f[len - 2] != '\r' || f[len - 1] != '\n') return 5;
         for (size_t i = 1; i < len - 2; i++)
-            if (digit(f[i]) < 0) return 5;
-        for (size_t i = 0; i < (len - 3) / 2; i++) body[i] = (uint8_t)(16 * digit(f[2 * i + 1]) + digit(f[2 * i + 2]));
+            if (digit(f[i], hex) < 0) return 5;
+        for (size_t i = 0; i < (len - 3) / 2; i++)
+            body[i] = (uint8_t)(16 * digit(f[2 * i + 1], hex) + digit(f[2 * i + 2], hex));
         *n = (len - 3) / 2 - 1;
         return sum(body, *n + 1) == 0 ? 0 : 6;
     default:
@@ -152,14 +158,14 @@ static size_t wrap(const struct asked *a, const uint8_t *body, size_t n) {
 result model_drive(const struct asked *a) {
     uint8_t b[256], r[256];
     size_t n = 0;
-    if (a->transport > 2) return (result){0, 10, 0};
+    if (a->transport > 2 || a->hex > 1) return (result){0, 10, 0};
     for (int t = 0; t < TABLES; t++) {
         int bits = t == COILS || t == DISCRETES;
         if (a->cells[t] > 65536 || a->table[t].len < (bits ? (a->cells[t] + 7) / 8 : 2 * a->cells[t]))
             return (result){0, 10, 0};
     }
     if (a->reply.len < (a->transport == 1 ? 511 : 260)) return (result){0, 9, 0};
-    int wrong = model_unwrap(a->transport, a->frame.bytes, a->frame.len, b, &n);
+    int wrong = model_unwrap(a->transport, a->hex, a->frame.bytes, a->frame.len, b, &n);
     if (wrong) return (result){0, (uint8_t)wrong, 0};
     int broadcast = a->list.len > 0 && memchr(a->list.bytes, b[0], a->list.len) != NULL;
     if (!broadcast && b[0] != a->unit) return (result){0, 4, 0};

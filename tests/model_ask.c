@@ -73,13 +73,13 @@ static struct told read_reply(const struct asking *a) {
     uint8_t asked[256], reply[256];
     size_t n = 0, m = 0;
     if (a->to.proto > 2) return refused(BAD_REQUEST);
-    if (model_unwrap(a->to.proto, a->request.bytes, a->request.len, asked, &n) != 0) return refused(BAD_REQUEST);
-    if (!is_request(asked, n)) return refused(BAD_REQUEST);
+    int unsent = model_unwrap(a->to.proto, DALONJANG_STRICT, a->request.bytes, a->request.len, asked, &n);
+    if (unsent || !is_request(asked, n)) return refused(BAD_REQUEST);
     int reads = asked[1] <= 4 || asked[1] == 23, bits = asked[1] <= 2;
     size_t echo = asked[1] == 22 ? 8 : 6;
     size_t count = reads ? word(asked + 4) : 0, bytes = bits ? (count + 7) / 8 : 2 * count;
     if (a->values_len < count) return refused(NO_ROOM);
-    int wrong = model_unwrap(a->to.proto, a->response.bytes, a->response.len, reply, &m);
+    int wrong = model_unwrap(a->to.proto, DALONJANG_STRICT, a->response.bytes, a->response.len, reply, &m);
     if (wrong) return refused((uint8_t)wrong);
     if (a->to.proto == 2 && memcmp(a->request.bytes, a->response.bytes, 2) != 0) return refused(NOT_MY_REPLY);
     if (reply[0] != asked[0]) return refused(NOT_MY_REPLY);

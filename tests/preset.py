@@ -36,9 +36,9 @@ class Preset(Server):
         self.folder.cleanup()
 
 
-def exchange(end, wrap, body, wanted):
-    """One request over a client or a line, and its reply, b"" for none."""
-    end.send(wrap(body))
+def exchange(end, wrap, body, wanted, spelt=bytes):
+    """One request over a client or a line, as it is spelt there, and its reply, b"" for none."""
+    end.send(spelt(wrap(body)))
     if wanted:
         same(end.receive(len(wrap(wanted))), wrap(wanted), f"the reply to {body[:7].hex()}")
     check(end.is_quiet(0.01 if wanted else QUIET), f"more comes than the reply to {body[:7].hex()}")

@@ -86,8 +86,8 @@ static void look_at_marks(void) {
 
 static uint32_t deepest;
 
-static struct dalonjang_result called(uint8_t transport, uint8_t unit, const size_t *cells) {
-    struct dalonjang_setup setup = {transport, unit, cells[0], cells[1], cells[2], cells[3]};
+static struct dalonjang_result called(uint8_t transport, uint8_t unit, uint8_t hex, const size_t *cells) {
+    struct dalonjang_setup setup = {transport, unit, hex, cells[0], cells[1], cells[2], cells[3]};
     paint_stack();
     close_borders();
     struct dalonjang_result r = dalonjang_drive(setup, lent[LIST].bytes, lent[LIST].len, lent[0].bytes, lent[0].len,
@@ -104,7 +104,7 @@ static void make_case(int first) {
     struct slice part[PARTS];
     size_t cells[TABLES];
     uint8_t fill[TABLES];
-    uint8_t transport = (uint8_t)number_of(first, 1), unit = (uint8_t)read_number(1);
+    uint8_t transport = (uint8_t)number_of(first, 1), unit = (uint8_t)read_number(1), hex = (uint8_t)read_number(1);
     uint8_t outcome = (uint8_t)read_number(1), code = (uint8_t)read_number(1);
     lent[REPLY].len = (size_t)read_number(2);
     size_t changing = (size_t)read_number(1), at = (size_t)read_number(4);
@@ -130,7 +130,7 @@ static void make_case(int first) {
         memcpy(lent[t].bytes, bytes[4 + t], part[4 + t].len);
     }
 
-    struct dalonjang_result r = called(transport, unit, cells);
+    struct dalonjang_result r = called(transport, unit, hex, cells);
     if (r.outcome != outcome) different("the outcome");
     if (r.code != code) different("the code");
     if (r.length != part[2].len) different("the reply's length");

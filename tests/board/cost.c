@@ -43,6 +43,7 @@ static void measure(struct row *row) {
     int bits = row->function == 1, both = row->function == 23;
     size_t most = bits ? 1000 : 100;
     unit.setup.transport = (uint8_t)row->kind;
+    unit.setup.hex = row->how == SMALL;
     if ((row->function < 5 || both) && row->start + row->count <= row->cells)
         for (size_t done = both ? row->count - KEPT : 0; done < row->count; done += most) {
             struct row part = *row;
@@ -69,15 +70,15 @@ static int word_of(char **at, const char *const *words, int many) {
 
 int main(void) {
     static const char *const kinds[] = {"rtu", "ascii", "tcp"};
-    static const char *const hows[] = {"ours", "foreign", "broadcast", "spoilt"};
+    static const char *const hows[] = {"ours", "foreign", "broadcast", "spoilt", "small"};
     static char text[16384];
     int file = open_file("rows");
     size_t len = file < 0 ? 0 : read_file(file, text, sizeof text - 1);
     struct row row = {.cells = CELLS};
     for (char *at = text; at < text + len; at++) { /* behind the line's end */
         row.kind = word_of(&at, kinds, CRC);
-        row.how = word_of(&at, hows, SPOILT + 1);
-        if (row.kind == CRC || row.how > SPOILT) return 1;
+        row.how = word_of(&at, hows, SMALL + 1);
+        if (row.kind == CRC || row.how > SMALL) return 1;
         row.function = strtoul(at, &at, 10);
         row.start = strtoul(at + 1, &at, 10);
         row.count = strtoul(at + 1, &at, 10);

@@ -43,15 +43,15 @@ def cases(path):
             name = line[2:]
             continue
         record = bytes.fromhex(line)
-        transport, unit, outcome, _ = record[:4]
-        changing, at = record[6], int.from_bytes(record[7:11], "big")
-        tables = [record[11 + 13 * t:24 + 13 * t] for t in range(4)]
+        transport, unit, switch, outcome, _ = record[:5]
+        changing, at = record[7], int.from_bytes(record[8:12], "big")
+        tables = [record[12 + 13 * t:25 + 13 * t] for t in range(4)]
         sizes = [(int.from_bytes(t[:4], "big"), int.from_bytes(t[4:12], "big")) for t in tables]
-        lengths, parts, start = [int.from_bytes(record[63 + 2 * p:65 + 2 * p], "big") for p in range(8)], [], 79
+        lengths, parts, start = [int.from_bytes(record[64 + 2 * p:66 + 2 * p], "big") for p in range(8)], [], 80
         for length in lengths:
             parts.append(record[start:start + length])
             start += length
-        fitting = transport == 0 and unit == 1 and parts[0] == b"\0" and record[4:6] == b"\1\4"
+        fitting = (transport, unit, switch) == (0, 1, 0) and parts[0] == b"\0" and record[5:7] == b"\1\4"
         if not fitting or sizes != [(COILS, 16), (0, 0), (HOLDINGS, 4), (0, 0)] or not parts[1]:
             continue
         before = [(parts[4 + t] + tables[t][12:] * HOLDINGS)[:sizes[t][0]] for t in (0, 2)]

@@ -22,12 +22,12 @@ use Rattle.modbus.proofs.PaperLaws.{byte-value}
 use Rattle.modbus.proofs.HexLaws.{undigit-figure, undigit-letter, undigit-none, digit-undigit}
 use Rattle.ascii.specs.Reading.{Ending, finished, refused, onward, StopByte, second, decode, textParsed, parsedInto}
 use Rattle.ascii.specs.Plain.{Digit, digit?, value, pairValues, begin, Plain}
-use Rattle.ascii.proofs.ReadingLaws.{pair-both, second-some, placed-go, decode-go, text-from, resumed, resumed-go}
+use Rattle.ascii.proofs.ReadingLaws.{stop-to, pair-both, second-some, placed-go, decode-go, text-from, resumed, resumed-go}
 
 -- a digit is no stop byte
 undigit-goes : (c a : ℕ) → undigit c ≡ go a → ¬ StopByte c
 undigit-goes c a e s =
-    let k : c ≤ 13 = ⊎-elim (λ q. omega arith) (λ t. ⊎-elim (λ q. omega arith) (λ q. omega arith) t) s in
+    let k = stop-to c s in
     let f = undigit-none c (λ p. omega (arith, p)) (λ p. omega (arith, p)) in
     let z : _≡_ {A = ℕ} 0 1 = cc in
     omega arith

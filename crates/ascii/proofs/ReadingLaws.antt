@@ -2,6 +2,7 @@
 -- what is done of it.
 -- Assumes nothing.
 use mathlib.Core.Bool.{Bool, true, false}
+use mathlib.Core.Logic.{⊎-elim}
 use mathlib.Core.Path.{_≡_, refl, sym, ap, ap₂, _∙_}
 use mathlib.Core.List.{List, [], _∷_, _++_}
 use Prim.Native.Nat.{ℕ, suc, _+_, _*_, _-_, _/_, _%_, _<_, _≤_, min}
@@ -21,6 +22,9 @@ use Rattle.modbus.proofs.HexLaws.{length-text}
 use Rattle.ascii.specs.Reading.{Ending, finished, refused, Decoded, ends, onward, StopByte, stopByte?, orRefused, second, pair, placed, decode, textParsed, counted, parsedInto, putText, generatedInto}
 
 -- ---- a pair
+
+pub stop-to : (c : ℕ) → StopByte c → c ≤ 13
+stop-to c s = ⊎-elim (λ e. omega arith) (λ t. ⊎-elim (λ e. omega arith) (λ e. omega arith) t) s
 
 module _ (h : ℕ) (r : Bool) (e : r ≡ choose (stopByte? h) true false) where
   pub stop-byte : r ≡ true → StopByte h

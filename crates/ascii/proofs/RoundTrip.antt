@@ -1,6 +1,6 @@
 -- What is written as text reads back, and how a reading ends behind it: document 01's cases of module 2.
 -- Assumes nothing.
-use mathlib.Core.Logic.{⊎-elim, inl, inr}
+use mathlib.Core.Logic.{inl, inr}
 use mathlib.Core.Path.{_≡_, refl, sym, ap, _∙_, subst}
 use mathlib.Core.List.{List, [], _∷_, _++_, append-nil}
 use Prim.Native.Nat.{ℕ, suc, _+_, _*_, _/_, _%_, _<_, _≤_}
@@ -9,13 +9,14 @@ use lib.ListN.{length, set, length-set, drop-of-length-le}
 use lib.Seq.{sets, sets-eq, take-length}
 use Rattle.modbus.specs.Step.{stop, go, _≤?_, _≟_}
 use Rattle.modbus.specs.Bytes.{Bytes}
-use Rattle.modbus.specs.Hex.{digit, undigit, text}
+use Rattle.modbus.specs.Hex.{digit, undigit, spelt, text}
 use Rattle.modbus.specs.Frame.{line}
 use Rattle.modbus.specs.declared.ErrorKind.the-variants.{OOB, FrameBroken}
 use Rattle.modbus.proofs.StepLaws.{pick-yes}
-use Rattle.modbus.proofs.HexLaws.{digit-low, digit-high, undigit-digit, undigit-none}
-use Rattle.ascii.specs.Reading.{Ending, finished, refused, Decoded, ends, onward, StopByte, second, decode, textParsed, parsedInto, generatedInto}
-use Rattle.ascii.proofs.ReadingLaws.{pair-stop, pair-second, pair-both, placed-full, placed-stop, placed-go, decode-stop, decode-go, line-written}
+use Rattle.modbus.proofs.HexLaws.{digit-low, digit-high, undigit-digit, undigit-none, spelt-same}
+use Rattle.modbus.proofs.FrameLaws.{line-capital}
+use Rattle.ascii.specs.Reading.{Ending, finished, refused, Decoded, ends, onward, StopByte, second, decode, textParsed, parsedInto, parsedUnder, generatedInto}
+use Rattle.ascii.proofs.ReadingLaws.{stop-to, pair-stop, pair-second, pair-both, placed-full, placed-stop, placed-go, decode-stop, decode-go, line-written}
 
 digit-from : (n : ℕ) → 48 ≤ digit n
 digit-from n = by (n ≤? 9)
@@ -23,9 +24,6 @@ digit-from n = by (n ≤? 9)
     by : Dec (n ≤ 9) → 48 ≤ digit n
     by (yes h) = omega (arith, digit-low n h)
     by (no h) = omega (arith, h, digit-high n (omega (arith, h)))
-
-stop-to : (c : ℕ) → StopByte c → c ≤ 13
-stop-to c s = ⊎-elim (λ e. omega arith) (λ t. ⊎-elim (λ e. omega arith) (λ e. omega arith) t) s
 
 digit-no-stop : (n : ℕ) → ¬ StopByte (digit n)
 digit-no-stop n s = omega (arith, digit-from n, stop-to (digit n) s)
@@ -122,3 +120,11 @@ pub read-back : (l out buf : List ℕ) (at : ℕ) → Bytes l → length out ≡
 read-back l out buf at y e h k =
     let g = ap (λ (p : (ℕ × ℕ) × List ℕ). p .1) (generated l out e) in
     rw (g, e, round-trip l y (length buf) at k h)
+
+-- under both switches, since a line has no small letter
+pub read-back-under : (hex : ℕ) → hex ≤ 1 → (l out buf : List ℕ) (at : ℕ) → Bytes l → length out ≡ length (line l) → at + length l ≤ 254
+    → at + length l ≤ length buf → parsedUnder hex (generatedInto l out .1) (length out) buf at ≡ ((0, length l), sets buf at l)
+read-back-under hex low l out buf at y e h k =
+    let g = ap (λ (p : (ℕ × ℕ) × List ℕ). p .1) (generated l out e) in
+    let c = spelt-same hex (line l) (line-capital l y) in
+    pick-yes _ _ _ low ∙ ap (λ (t : List ℕ). parsedInto t (length out) buf at) (ap (spelt hex) g ∙ c ∙ sym g) ∙ read-back l out buf at y e h k

@@ -9,7 +9,7 @@ use lib.ListN.{length, take, drop}
 use lib.Seq.{sets}
 use Rattle.modbus.specs.Step.{Step, stop, go, _>>=_, _>>_, need, choose, _≤?_, _≟_, _or?_, not?}
 use Rattle.modbus.specs.Paper.{told}
-use Rattle.modbus.specs.Hex.{undigit, text}
+use Rattle.modbus.specs.Hex.{undigit, spelt, text}
 use Rattle.modbus.specs.Frame.{line}
 use Rattle.modbus.specs.declared.ErrorKind.{ErrorKind}
 use Rattle.modbus.specs.declared.ErrorKind.the-variants.{OOB}
@@ -87,6 +87,10 @@ abbrev pub parsedInto : List ℕ → ℕ → List ℕ → ℕ → (ℕ × ℕ) �
 parsedInto l n buf at =
     let d = textParsed l n (length buf) at in
     (told (counted d (d .ending)), sets buf at (d .bytes))
+
+-- under a switch (document 02, 2026-06), 0 strict or 1 lenient: another is OOB before all else, the buffer as lent
+abbrev pub parsedUnder : ℕ → List ℕ → ℕ → List ℕ → ℕ → (ℕ × ℕ) × List ℕ
+parsedUnder hex l n buf at = choose (hex ≤? 1) (parsedInto (spelt hex l) n buf at) (told (stop OOB), buf)
 
 -- the text of bytes put at a place of a lent slice: whether it ends within the slice, and nothing is put where it does not
 abbrev pub putText : List ℕ → ℕ → List ℕ → Bool × List ℕ

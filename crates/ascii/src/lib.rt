@@ -3,6 +3,7 @@ mod reading;
 mod writing;
 
 use modbus::ByteAnswer;
+use modbus::ErrorKind;
 use modbus::SizeAnswer;
 use reading::colon;
 use reading::decode_pairs;
@@ -17,8 +18,8 @@ ghost use mathlib.Core.Path.{_≡_};
 ghost use Prim.Native.Nat.{_%_};
 ghost use Rattle.modbus.specs.Step.{choose};
 ghost use Rattle.modbus.specs.Paper.{bytePaper, sizePaper};
-ghost use Rattle.modbus.specs.Hex.{digit};
-ghost use Rattle.ascii.specs.Reading.{parsedInto, putText, generatedInto};
+ghost use Rattle.modbus.specs.Hex.{spelt, digit};
+ghost use Rattle.ascii.specs.Reading.{parsedInto, parsedUnder, putText, generatedInto};
 ghost use Rattle.ascii.specs.Plain.{digit?};
 
 // 0 for a digit 0-9 or A-F, 1 for any other character. By two differences that wrap: so the compiler tests sixteen at a time.
@@ -34,23 +35,41 @@ pub fn other(c: u8) -> u8
     1
 }
 
-// Decodes the first `data_len` bytes of the data into the frame buffer from `frame_pos` on, and answers how many bytes that gave.
-pub fn parse_ascii_frame(
+// Decodes the first `data_len` bytes of the data into the frame buffer from `frame_pos` on, and answers how many bytes that gave. Digits a-f
+// are read where `hex` is not 0.
+pub fn parse_text(
     data: &[u8],
     data_len: usize,
     frame_buf: &mut [u8],
     frame_pos: u8,
+    hex: u8,
 ) -> ByteAnswer
-    ensures { λ r. ⌜ (bytePaper r, now («frame_buf» .exit)) ≡ parsedInto (now («data» .entry)) «data_len» (now («frame_buf» .entry)) «frame_pos» ⌝ }
+    ensures { λ r. ⌜ (bytePaper r, now («frame_buf» .exit)) ≡ parsedInto (spelt hex (now («data» .entry))) «data_len» (now («frame_buf» .entry)) «frame_pos» ⌝ }
 {
     let at = frame_pos as usize;
     if !plain(data, data_len, frame_buf.len(), at) {
-        return parse_by_pairs(data, data_len, frame_buf, frame_pos);
+        return parse_by_pairs(data, data_len, frame_buf, frame_pos, hex);
     }
     let from = colon(data[0]);
     let n = (data_len - from) / 2;
     decode_pairs(data, from, n, frame_buf, at);
     ByteAnswer::Value(n as u8)
+}
+
+// The crate's call, under a switch: 0 strict, 1 lenient.
+pub fn parse_ascii_frame(
+    data: &[u8],
+    data_len: usize,
+    frame_buf: &mut [u8],
+    frame_pos: u8,
+    hex: u8,
+) -> ByteAnswer
+    ensures { λ r. ⌜ (bytePaper r, now («frame_buf» .exit)) ≡ parsedUnder hex (now («data» .entry)) «data_len» (now («frame_buf» .entry)) «frame_pos» ⌝ }
+{
+    if 1 < hex {
+        return ByteAnswer::Refused(ErrorKind::OOB);
+    }
+    parse_text(data, data_len, frame_buf, frame_pos, hex)
 }
 
 // The character of a byte's lower half. By a table: so one character takes one look.

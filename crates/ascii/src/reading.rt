@@ -1,6 +1,6 @@
 // Text into bytes.
 use crate::other;
-use checks::chr_to_hex;
+use checks::digit_under;
 use modbus::ByteAnswer;
 use modbus::ErrorKind;
 use octets::least;
@@ -12,8 +12,9 @@ ghost use Prim.Native.Nat.{_+_, _*_, _-_, _<_, _≤_};
 ghost use lib.ListN.{length, getD, take, drop};
 ghost use lib.Seq.{sets};
 ghost use Rattle.modbus.specs.Step.{choose, _≟_};
-ghost use Rattle.modbus.specs.Paper.{bytePaper};
+ghost use Rattle.modbus.specs.Paper.{told, bytePaper};
 ghost use Rattle.modbus.specs.Bytes.{All};
+ghost use Rattle.modbus.specs.Hex.{undigit, spell, spelt};
 ghost use Rattle.ascii.specs.Reading.{stopByte?, pair, parsedInto};
 ghost use Rattle.ascii.specs.Plain.{Digit, value, pairValues, Plain};
 ghost use Rattle.ascii.specs.Said.{said};
@@ -38,21 +39,21 @@ enum Pair {
 }
 
 // Reads the pair at `at` of the text, the first `end` bytes of the data.
-fn pair_at(data: &[u8], end: usize, at: usize) -> Pair
+fn pair_at(data: &[u8], end: usize, at: usize, hex: u8) -> Pair
     requires { ⌜ (at < end) × (end ≤ length (now «data»)) ⌝ }
-    ensures { λ r. ⌜ said r ≡ pair (getD (now («data» .entry)) at 0) (drop (at + 1) (take end (now («data» .entry)))) ⌝ }
+    ensures { λ r. ⌜ said r ≡ pair (spell hex (getD (now («data» .entry)) at 0)) (drop (at + 1) (take end (spelt hex (now («data» .entry))))) ⌝ }
 {
     let ch = data[at];
     if stop_byte(ch) {
         return Pair::Stop;
     }
-    match chr_to_hex(ch) {
+    match digit_under(ch, hex) {
         ByteAnswer::Refused(k) => Pair::Refused(k),
         ByteAnswer::Value(c) => {
             if end <= at + 1 {
                 return Pair::Refused(ErrorKind::OOB);
             }
-            match chr_to_hex(data[at + 1]) {
+            match digit_under(data[at + 1], hex) {
                 ByteAnswer::Refused(k) => Pair::Refused(k),
                 ByteAnswer::Value(c2) => Pair::Byte(c * 0x10 + c2),
             }
@@ -147,6 +148,17 @@ fn quick_pairs(end: usize, from: usize, room: usize, at: usize) -> usize
     n
 }
 
+// What a digit 0-9 or A-F stands for: every switch reads these alike, and to ask for no other costs less.
+fn strict_digit(c: u8) -> ByteAnswer
+    ensures { λ r. ⌜ bytePaper r ≡ told (undigit c) ⌝ }
+{
+    match c {
+        48..=57 => ByteAnswer::Value(c - 48),
+        65..=70 => ByteAnswer::Value(c - 55),
+        _ => ByteAnswer::Refused(ErrorKind::FrameBroken),
+    }
+}
+
 // Decodes pairs of digits from `from` on to the places of `buf` from `at` on, n of them or up to the first that is none; how many.
 fn decode_digits(data: &[u8], from: usize, n: usize, buf: &mut [u8], at: usize) -> usize
     requires { ⌜ (from + 2 * n ≤ length (now «data»)) × (n ≤ length (now buf) - at) ⌝ }
@@ -154,9 +166,9 @@ fn decode_digits(data: &[u8], from: usize, n: usize, buf: &mut [u8], at: usize) 
 {
     for i in 0..n {
         let k = from + 2 * i;
-        match chr_to_hex(data[k]) {
+        match strict_digit(data[k]) {
             ByteAnswer::Refused(_) => return i,
-            ByteAnswer::Value(a) => match chr_to_hex(data[k + 1]) {
+            ByteAnswer::Value(a) => match strict_digit(data[k + 1]) {
                 ByteAnswer::Refused(_) => return i,
                 ByteAnswer::Value(b) => buf[at + i] = a * 16 + b,
             },
@@ -171,8 +183,9 @@ pub(crate) fn parse_by_pairs(
     data_len: usize,
     frame_buf: &mut [u8],
     frame_pos: u8,
+    hex: u8,
 ) -> ByteAnswer
-    ensures { λ r. ⌜ (bytePaper r, now («frame_buf» .exit)) ≡ parsedInto (now («data» .entry)) «data_len» (now («frame_buf» .entry)) «frame_pos» ⌝ }
+    ensures { λ r. ⌜ (bytePaper r, now («frame_buf» .exit)) ≡ parsedInto (spelt hex (now («data» .entry))) «data_len» (now («frame_buf» .entry)) «frame_pos» ⌝ }
 {
     if data.len() == 0 {
         return ByteAnswer::Refused(ErrorKind::OOB);
@@ -187,7 +200,7 @@ pub(crate) fn parse_by_pairs(
         if cpos == 255 {
             return ByteAnswer::Refused(ErrorKind::OOB);
         }
-        match pair_at(data, end, data_pos) {
+        match pair_at(data, end, data_pos, hex) {
             Pair::Refused(k) => return ByteAnswer::Refused(k),
             Pair::Stop => return ByteAnswer::Value(cpos - frame_pos),
             Pair::Byte(b) => {

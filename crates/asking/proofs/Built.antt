@@ -12,11 +12,12 @@ use Rattle.modbus.specs.Request.{reads, many, code, Ask, read, write, writes, m
 use Rattle.modbus.specs.Paper.{protoOf}
 use Rattle.modbus.specs.Setup.{Setup, proto}
 use Rattle.modbus.specs.Frame.{Framed, least, most}
-use Rattle.modbus.specs.Drive.{Inside}
+use Rattle.modbus.specs.Drive.{Inside, spelled}
 use Rattle.modbus.specs.declared.ModbusProto.{ModbusProto}
 use Rattle.modbus.specs.declared.ModbusProto.the-variants.{Rtu, Ascii, TcpUdp}
 use Rattle.modbus.proofs.StepLaws.{bound, needed}
 use Rattle.modbus.proofs.CargoLaws.{length-cargo, bytes-cargo}
+use Rattle.modbus.proofs.FrameLaws.{framed-spelled}
 use Rattle.demands.specs.Demand.{Request, Addressed, Serves}
 use Rattle.client.specs.declared.ModbusRequest.{ModbusRequest}
 use Rattle.client.specs.Asking.{Declined, everyCell, padding, tagTo, frameTo, generated}
@@ -148,13 +149,19 @@ module _ (to : ModbusRequest) (unit : to .«unit_id» < 256) (wanted : Step Decl
             };
       }
 
--- a server of that transport which has the cells, and which it addresses, serves it as exactly this request
+-- what the client writes is in capitals, and so the same under every switch of a server
+pub says-capital : (n : ℕ) (f : List ℕ) (q : Request) → Says n f q → (s : Setup) → s .transport ≡ n → spelled s f ≡ f
+says-capital n f q h s e =
+    let (l, encodes, framed) = h .encoded in
+    framed-spelled (proto s) (s .hex) (q .tag) (q .unit ∷ l) f (subst (λ (k : ℕ). Framed (protoOf k) (q .tag) (q .unit ∷ l) f) (sym e) framed)
+
+-- a server of that transport which has the cells, and which it addresses, serves it as exactly this request, strict or lenient
 pub says-served : (n : ℕ) (f : List ℕ) (q : Request) → Says n f q → (s : Setup) → s .transport ≡ n → Inside s (q .ask) → Addressed s q → Serves s f q
 says-served n f q h s e i a =
     let (l, encodes, framed) = h .encoded in
     record {
       permitted = h .permitted;
-      encoded = (l, encodes, subst (λ (k : ℕ). Framed (protoOf k) (q .tag) (q .unit ∷ l) f) (sym e) framed);
+      encoded = (l, encodes, rw (says-capital n f q h s e) (subst (λ (k : ℕ). Framed (protoOf k) (q .tag) (q .unit ∷ l) f) (sym e) framed));
       inside = i;
       addressed = a;
     }

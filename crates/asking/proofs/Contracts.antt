@@ -16,6 +16,7 @@ use Rattle.modbus.specs.Bytes.{Bytes}
 use Rattle.modbus.specs.Table.{Range}
 use Rattle.modbus.specs.Request.{Ask, masks, swaps, reading, seen, found}
 use Rattle.modbus.specs.Decode.{Silent, readIgnored, foreign, frameBroken, frameCheck, wrongLength, badFunction, noRoom, badSetup}
+use Rattle.modbus.specs.Drive.{spelled}
 use Rattle.modbus.specs.declared.Answer.{Answer}
 use Rattle.tables.specs.Lent.{tablesOf}
 use Rattle.driver.proofs.drive.Kinds as drive-kinds
@@ -118,22 +119,23 @@ module _ (κs : Lfts 7) (a : Dens κs drive-kinds.ps) (x : resT drive-kinds.r κ
 
   module _ (frameBytes : Bytes (frame κs a)) (holdingBytes : Bytes (lent κs a .holdingBytes))
       (inputBytes : Bytes (lent κs a .inputBytes)) where
-    -- what was answered is read as the cells' contents, as the driver left them in the bytes
-    pub read-back : x .outcome ≡ 0
+    -- what was answered is read as the cells' contents, as the driver left them in the bytes; the frame stands for itself under the driver's
+    -- switch, as each that was built does (`says-capital`)
+    pub read-back : spelled (setup κs a) (frame κs a) ≡ frame κs a → x .outcome ≡ 0
         → (r : Request) × Serves (setup κs a) (frame κs a) r
         × (shownCount (r .ask) ≤ length before
         → (w ≡ readOf (length (found (r .ask) (seen (tablesOf (lentAfter (lent κs a) (left κs a x u)))))) 0 0)
         × (after ≡ sets before 0 (found (r .ask) (seen (tablesOf (lentAfter (lent κs a) (left κs a x u)))))))
-    read-back o =
+    read-back capital o =
         values-back (a .0) _ (lent κs a) (frame κs a) (reply κs a) frameBytes (left κs a x u) post holdingBytes inputBytes
-        before after w heard o
+        before after w heard capital o
 
     -- value i is cell first + i of the range that is read
-    pub cell-back : x .outcome ≡ 0 → (g : Range)
+    pub cell-back : spelled (setup κs a) (frame κs a) ≡ frame κs a → x .outcome ≡ 0 → (g : Range)
         → ((r : Request) → Serves (setup κs a) (frame κs a) r → reading (r .ask) ≡ g ∷ []) → g .count ≤ length before → (i : ℕ) → i < g .count
         → getD after i 0 ≡ tablesOf (lentAfter (lent κs a) (left κs a x u)) (g .tab) (g .first + i)
-    cell-back o g asks fits i h =
-        let (r, serves, k) = read-back o in
+    cell-back capital o g asks fits i h =
+        let (r, serves, k) = read-back capital o in
         let T = tablesOf (lentAfter (lent κs a) (left κs a x u)) in
         let (n, p) = found-range (r .ask) g (seen T) (asks r serves) in
         let z = k (rw n fits) .1 ∙ ap (sets before 0) p in

@@ -15,7 +15,7 @@ use Rattle.modbus.specs.Table.{coils, discretes, holdings, inputs, Range, part}
 use Rattle.modbus.specs.Request.{Ask, read, write, writes, masks, swaps, reading, Seen, seen, found}
 use Rattle.modbus.specs.Storage.{registerAt}
 use Rattle.modbus.specs.Setup.{Setup, Valid, valid?, Roomy, roomy?}
-use Rattle.modbus.specs.Drive.{Result, drive}
+use Rattle.modbus.specs.Drive.{spelled, Result, drive}
 use Rattle.modbus.proofs.BytesLaws.{word-at}
 use Rattle.modbus.proofs.StorageLaws.{length-part, getD-part, coil-bit}
 use Rattle.modbus.proofs.AnswerLaws.{Proper}
@@ -31,6 +31,7 @@ use Rattle.client.specs.declared.Reading.{Reading}
 use Rattle.client.specs.Asking.{Declined, Reply, shows, excepted, shownCount, understood, readInto}
 use Rattle.client.specs.Hearing.{readOf}
 use Rattle.asking.specs.Belonging.{Says}
+use Rattle.asking.proofs.Built.{says-capital}
 use Rattle.asking.proofs.ReadBack.{read-back, read-back-some, read-back-refused}
 
 -- the cells of bytes hold what cells can hold
@@ -77,20 +78,21 @@ module _ (n : Numbers) (list : List ℕ) (l : Lent) (frame reply : List ℕ) (y 
 
   module _ (out after : List ℕ) (w : Reading)
       (q : _≡_ {A = Reading × List ℕ} (w, after) (readInto out (understood (n .transport) frame came (length out)))) where
-    -- a frame that was answered is some request's; the client's values are what its cells hold in the bytes afterwards
-    pub values-back : g .result .outcome ≡ 0
+    -- a frame that was answered is some request's; the client's values are what its cells hold in the bytes afterwards; the frame stands for
+    -- itself under the server's switch, as each that the client builds does
+    pub values-back : spelled s frame ≡ frame → g .result .outcome ≡ 0
         → (r : Request) × Serves s frame r
         × (shownCount (r .ask) ≤ length out → (w ≡ readOf (length (found (r .ask) (seen (tablesOf (lentAfter l g))))) 0 0)
         × (after ≡ sets out 0 (found (r .ask) (seen (tablesOf (lentAfter l g))))))
-    values-back o =
+    values-back capital o =
         let z : drive s (tablesOf l) frame .outcome ≡ 0 = sym (ap (λ (x : Result). x .outcome) due) ∙ o in
         let (v, roomy) = low-valid s l frame y (omega arith) in
         let p = proper l h k in
-        let (r, serves) = read-back-some s (tablesOf l) frame y v roomy p z in (
+        let (r, serves) = read-back-some s (tablesOf l) frame y capital v roomy p z in (
           r,
           serves,
           λ fits.
-              let b = read-back s (tablesOf l) frame y v roomy p z r serves (length out) fits in
+              let b = read-back s (tablesOf l) frame y capital v roomy p z r serves (length out) fits in
               told-as out after w _ _ q
               (subst (λ (x : Result). understood (n .transport) frame (x .reply) (length out) ≡ go (shows (found (r .ask) (seen (x .after))))) (sym due) b),
         )
@@ -101,7 +103,7 @@ module _ (n : Numbers) (list : List ℕ) (l : Lent) (frame reply : List ℕ) (y 
     exception-back o r says fits =
         let z : drive s (tablesOf l) frame .outcome ≡ 2 = sym (ap (λ (x : Result). x .outcome) due) ∙ o in
         let (v, roomy) = low-valid s l frame y (omega arith) in
-        let (b, c) = read-back-refused s (tablesOf l) frame y v roomy (proper l h k) r says z (length out) fits in
+        let (b, c) = read-back-refused s (tablesOf l) frame y (says-capital (n .transport) frame r says s refl) v roomy (proper l h k) r says z (length out) fits in
         let (t, a) = told-code out after w _ _ q
         (subst (λ (x : Result). understood (n .transport) frame (x .reply) (length out) ≡ go (excepted (x .exceptionCode))) (sym due) b) in
         (t, a, ap (λ (x : Result). x .exceptionCode) due ∙ c)

@@ -14,7 +14,7 @@ use Rattle.modbus.specs.Frame.{Framed, wrap}
 use Rattle.modbus.specs.Setup.{Setup, proto, Valid, Roomy}
 use Rattle.modbus.specs.Unit.{Broadcast}
 use Rattle.modbus.specs.Decode.{Message, unitOf, numberOf, unwrap}
-use Rattle.modbus.specs.Drive.{AllWithin, Inside, drive}
+use Rattle.modbus.specs.Drive.{AllWithin, Inside, spelled, drive}
 use Rattle.modbus.proofs.StorageLaws.{length-part, part-all}
 use Rattle.modbus.proofs.AnswerLaws.{Proper, assign-proper, answer-fits, answer-bytes}
 use Rattle.modbus.proofs.DriveLaws.{go-after}
@@ -36,22 +36,23 @@ use Rattle.asking.proofs.Built.{least-three, most-253}
 -- ---- what a server serves may be asked
 
 held : (s : Setup) → Valid s → (t : Tab) → s .cells t ≤ 65536
-held s v coils = v .1 .0 .0
-held s v discretes = v .1 .1 .0 .0
-held s v holdings = v .1 .1 .1 .0 .0
-held s v inputs = v .1 .1 .1 .1 .0
+held s v coils = v .1 .1 .0 .0
+held s v discretes = v .1 .1 .1 .0 .0
+held s v holdings = v .1 .1 .1 .1 .0 .0
+held s v inputs = v .1 .1 .1 .1 .1 .0
 
 every-range : (s : Setup) (n : ℕ) → Valid s → (l : List Range) → AllWithin s l → AllWithin (everyCell n) l
 every-range s n v [] h = tt
 every-range s n v (r ∷ l) h = (omega (arith, h .0, held s v (r .tab)), every-range s n v l (h .1))
 
-pub serves-says : (s : Setup) (f : List ℕ) → Valid s → (q : Request) → Serves s f q → Says (s .transport) f q
-serves-says s f v q h =
+-- a frame that stands for itself under the server's switch
+pub serves-says : (s : Setup) (f : List ℕ) → spelled s f ≡ f → Valid s → (q : Request) → Serves s f q → Says (s .transport) f q
+serves-says s f capital v q h =
     record {
       transport = v .0;
       permitted = h .permitted;
       inside = every-range s (s .transport) v (reading (q .ask) ++ writing (q .ask)) (h .inside);
-      encoded = h .encoded;
+      encoded = (h .encoded .0, h .encoded .1, rw capital at (h .encoded .2));
     }
 
 -- ---- an answer shows the cells
@@ -79,7 +80,7 @@ answer-shows (writes k s ws) t p proper = (refl, refl)
 answer-shows (masks a x y) t p proper = (refl, refl)
 answer-shows (swaps r n s ws) t p proper = part-carried holdings (code both) r n (apply (swaps r n s ws) t) (assign-proper _ ws t (p .4) proper)
 
-module _ (s : Setup) (t : Tables) (f : List ℕ) (y : Bytes f) (v : Valid s) (roomy : Roomy s) (proper : Proper t) where
+module _ (s : Setup) (t : Tables) (f : List ℕ) (y : Bytes f) (capital : spelled s f ≡ f) (v : Valid s) (roomy : Roomy s) (proper : Proper t) where
   after-is : (q : Request) → Serves s f q → drive s t f .after ≡ apply (q .ask) t
   unfolding drive
   after-is q h = rw (serves-judge s f v roomy q h) (go-after s t (message s f q h) (q .ask))
@@ -102,7 +103,7 @@ module _ (s : Setup) (t : Tables) (f : List ℕ) (y : Bytes f) (v : Valid s) (ro
       ∙ ap (λ (w : Tables). wrap (proto s) (q .tag) (q .unit ∷ answer a (found a (seen w)))) z in
       only-mine (s .transport) f reply room y (reply-bytes s t f y proper) vs .1 (
         q,
-        serves-says s f v q h,
+        serves-says s f capital v q h,
         fits,
         (
           answer a vs,
@@ -128,7 +129,7 @@ module _ (s : Setup) (t : Tables) (f : List ℕ) (y : Bytes f) (v : Valid s) (ro
     same-message : (m : Message) → Sent s f m → m ≡ messageOf (s .transport) f q h
     same-message m k =
         let (l, encodes, framed) = h .encoded in
-        let e = complete (proto s) (m .tag) (m .body) f (k .framed) in
+        let e = complete (proto s) (m .tag) (m .body) f (rw capital at (k .framed)) in
         let g = complete (proto s) (q .tag) (q .unit ∷ l) f framed in
         let z : go m ≡ go (messageOf (s .transport) f q h) = sym e ∙ g in
         cc

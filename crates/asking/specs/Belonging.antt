@@ -7,21 +7,21 @@ use Prim.Native.Nat.{ℕ, _≤_, _<_}
 use lib.ListN.{length, getD, take}
 use Rattle.modbus.specs.Bytes.{All}
 use Rattle.modbus.specs.Table.{Kind, word, kindOf, Fits}
-use Rattle.modbus.specs.Request.{reads, both, code, Ask, read, write, writes, masks, swaps, fnOf, Permitted, cargo, octets, Fills, answer, exception}
+use Rattle.modbus.specs.Request.{reads, both, code, Ask, read, write, writes, masks, swaps, fnOf, Permitted, cargo, octets, Fills, Encodes, answer, exception}
 use Rattle.modbus.specs.Paper.{protoOf}
 use Rattle.modbus.specs.Frame.{Framed}
 use Rattle.modbus.specs.Decode.{Message}
 use Rattle.modbus.specs.Drive.{Inside}
-use Rattle.demands.specs.Demand.{Request, Encoded}
+use Rattle.demands.specs.Demand.{Request}
 use Rattle.client.specs.declared.ModbusRequest.{ModbusRequest}
 use Rattle.client.specs.Asking.{everyCell, tagTo, shownCount}
 
--- the frame is, within document 01's bounds, the published encoding of a request that may be asked
+-- the frame is, within document 01's bounds, the published encoding of a request that may be asked, on ASCII in capitals
 pub record Says (n : ℕ) (f : List ℕ) (q : Request) : Type 0 where
   pub transport : n ≤ 2
   pub permitted : Permitted (q .ask)
   pub inside : Inside (everyCell n) (q .ask)
-  pub encoded : Encoded (everyCell n) q f
+  pub encoded : (l : List ℕ) × Encodes (q .ask) l × Framed (protoOf n) (q .tag) (q .unit ∷ l) f
 
 -- n values behind a function and their byte count, with any pad bits
 abbrev pub Carries : Kind → ℕ → ℕ → List ℕ → List ℕ → Type 0

@@ -13,11 +13,11 @@ use records::parts::wide;
 ghost use Prim.Native.Nat.{_≤_};
 
 // Where the descriptions of the tables stand in a record, the lengths of its parts, and the parts.
-const TABLES: usize = 11;
+const TABLES: usize = 12;
 
-const LENGTHS: u16 = 63;
+const LENGTHS: u16 = 64;
 
-const PARTS: u16 = 79;
+const PARTS: u16 = 80;
 
 // How many parts there are: broadcast list, frame, reply, changed bytes, and the front of each table.
 const COUNT: u8 = 8;
@@ -58,17 +58,17 @@ fn kept(record: &[u8], t: u8, table: &[u8]) -> bool
 {
     let front = part(record, 4 + t);
     let filler = byte(record, table_at(t) + 12);
-    if byte(record, 6) == t {
-        return stands(table, front, filler, wide(record, 7), part(record, 3));
+    if byte(record, 7) == t {
+        return stands(table, front, filler, wide(record, 8), part(record, 3));
     }
     stands(table, front, filler, 0, &record[0..0])
 }
 
 fn told(record: &[u8], got: Driven) -> bool {
-    if got.outcome != byte(record, 2) {
+    if got.outcome != byte(record, 3) {
         return false;
     }
-    if got.code != byte(record, 3) {
+    if got.code != byte(record, 4) {
         return false;
     }
     got.length == part(record, 2).len()
@@ -86,6 +86,7 @@ fn called(
     let setup = Setup {
         transport: byte(record, 0),
         unit: byte(record, 1),
+        hex: byte(record, 2),
         coil_cells: cells(record, 0),
         discrete_cells: cells(record, 1),
         holding_cells: cells(record, 2),
@@ -158,7 +159,7 @@ fn cut_written(
 ) -> bool {
     let c = wide(record, table_at(0));
     let h = wide(record, table_at(2));
-    let room = word(record, 4) as usize;
+    let room = word(record, 5) as usize;
     if coils.len() < c {
         return false;
     }

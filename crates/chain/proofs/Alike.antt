@@ -1,6 +1,6 @@
 -- On every good frame of the right length and within the crate's bounds, with a function below 128 that the driver serves as one of the crate's
--- eight or not at all, and but for the values that the crate does not test, the crate's chain of calls gives the driver's reply and leaves the driver's tables, whether the request is
--- served, refused or ignored.
+-- eight or not at all, and but for the values that the crate does not test, the crate's chain of calls gives the reply of the driver, strict, and
+-- leaves the driver's tables, whether the request is served, refused or ignored.
 -- Assumes nothing.
 use mathlib.Core.Logic.{_⊎_, inl, by-cases}
 use mathlib.Core.Path.{_≡_, refl, sym, ap, _∙_, subst}
@@ -15,7 +15,7 @@ use Rattle.modbus.specs.Request.{Fn, code, offered}
 use Rattle.modbus.specs.Setup.{Setup, proto}
 use Rattle.modbus.specs.Unit.{Broadcast, broadcast?, Ours}
 use Rattle.modbus.specs.Decode.{Message, unitOf, numberOf, Silent, IsRead, isRead?, Lengthy}
-use Rattle.modbus.specs.Drive.{Fault, quiet, coded, judge, settle, drive}
+use Rattle.modbus.specs.Drive.{Fault, quiet, coded, spelled, judge, settle, drive}
 use Rattle.modbus.proofs.StepLaws.{bound-stop, needed-stop, pick-yes}
 use Rattle.modbus.proofs.FrameLaws.{complete}
 use Rattle.modbus.proofs.FindLaws.{found-fn, found-fault}
@@ -30,7 +30,7 @@ use Rattle.chain.proofs.Shared.{as-code}
 use Rattle.chain.proofs.Response.{nothing-line, gives}
 use Rattle.chain.proofs.Laid.{laid}
 use Rattle.chain.proofs.Faults.{chain-foreign, chain-ignored}
-use Rattle.chain.proofs.Verdicts.{Why, no-function, bad-value, bad-address, refused, judged}
+use Rattle.chain.proofs.Verdicts.{strictly, Why, no-function, bad-value, bad-address, refused, judged}
 use Rattle.chain.proofs.Served.{served}
 use Rattle.chain.proofs.Excepted.{least-two, excepted-alike}
 
@@ -42,15 +42,15 @@ why-sent x (bad-address fn k n w i) = k .sent
 -- a frame holds one message
 same-message : (s : Setup) (f : List ℕ) (m n : Message) → Sent s f m → Sent s f n → m ≡ n
 same-message s f m n h k =
-    let a = complete (proto s) (m .tag) (m .body) f (h .framed) in
-    let b = complete (proto s) (n .tag) (n .body) f (k .framed) in
+    let a = complete (proto s) (m .tag) (m .body) (spelled s f) (h .framed) in
+    let b = complete (proto s) (n .tag) (n .body) (spelled s f) (k .framed) in
     cc
 
 -- a fault with a code is no silent one
 no-silence : {C : Type 0} {m : Message} {x : ℕ} {o : Silent} → coded m x ≡ quiet o → C
 no-silence e = let z : _≡_ {A = ℕ} 0 1 = cc in absurd (omega arith)
 
-module _ (numbers : Numbers) (list : List ℕ) (l : Lent) (reply frame out : List ℕ) (y : Bytes frame) where
+module _ (numbers : Numbers) (list : List ℕ) (l : Lent) (reply frame out : List ℕ) (y : Bytes frame) (strict : numbers .hex ≡ 0) where
   abbrev s : Setup
   s = setupOf numbers list l reply
 
@@ -78,7 +78,7 @@ module _ (numbers : Numbers) (list : List ℕ) (l : Lent) (reply frame out : Lis
         → chained unit (proto s) list l (handed (proto s) frame) out ≡ chainedTo 0 [] (l .coilBytes) (l .holdingBytes)
     unfolding Broadcast
     ignored (reads t) c b i =
-        let held = laid (proto s) (m .tag) (m .body) frame (h .framed) within in
+        let held = laid (proto s) (m .tag) (m .body) frame (strictly s frame strict (h .framed)) within in
         chain-ignored (held .0) (record { room = room; listed = pick-yes _ _ _ b; ours = inl b }) l t refl c two
     ignored (one k) c b i = absurd i
     ignored (many k) c b i = absurd i
@@ -87,13 +87,13 @@ module _ (numbers : Numbers) (list : List ℕ) (l : Lent) (reply frame out : Lis
         → chained unit (proto s) list l (handed (proto s) frame) out ≡ chainedTo 0 [] (l .coilBytes) (l .holdingBytes)
     unfolding Broadcast Ours
     foreign-ignored n =
-        chain-foreign (laid (proto s) (m .tag) (m .body) frame (h .framed) within .0) unit list out (omega (arith, two)) n l
+        chain-foreign (laid (proto s) (m .tag) (m .body) frame (strictly s frame strict (h .framed)) within .0) unit list out (omega (arith, two)) n l
 
     by-fault : (x : Fault) → judge s frame ≡ stop x → Alike
     by-fault (coded n x) e =
         let why = refused s frame n x y e in
         let z = same-message s frame m n h (why-sent x why) in
-        excepted-alike numbers list l reply frame out y room n x (subst (λ k. Shared (numberOf k)) z shared)
+        excepted-alike numbers list l reply frame out y strict room n x (subst (λ k. Shared (numberOf k)) z shared)
         (subst (λ k. Bounded (proto s) (k .body)) z within)
         (subst (λ k. (fn : Ported) → numberOf k ≡ codeOf fn → ¬ Untested fn (k .body)) z (λ fn c. fits fn c .1)) e
     by-fault (quiet o) e =
@@ -117,5 +117,5 @@ module _ (numbers : Numbers) (list : List ℕ) (l : Lent) (reply frame out : Lis
         (λ n a e.
         let (f, j) = judged s frame n a y e in
         let z = same-message s frame m n h (j .known .sent) in
-        served numbers list l reply frame out y room n a (subst (λ k. Shared (numberOf k)) z shared)
+        served numbers list l reply frame out y strict room n a (subst (λ k. Shared (numberOf k)) z shared)
         (subst (λ k. Bounded (proto s) (k .body)) z within) e)

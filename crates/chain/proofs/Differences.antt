@@ -1,4 +1,4 @@
--- Where the crate's chain of calls and the driver differ on a frame, each with its condition and both answers: a TCP
+-- Where the crate's chain of calls and the driver, strict, differ on a frame, each with its condition and both answers: a TCP
 -- frame outside the crate's bounds is refused; to our own unit an unknown function is answered without a look at the
 -- check, a count of 0 is served, and a byte count is not held against its count; functions 22 and 23 are answered by code 1.
 -- Assumes nothing.
@@ -40,6 +40,7 @@ use Rattle.driver.specs.declared.Setup.{Setup as Numbers}
 use Rattle.demands.specs.Order.{Shaped, Sent, Known, Coded, exception-sent, ignored, frame-broken, frame-check, bad-value}
 use Rattle.demands.proofs.PlaceLaws.{value-by-places}
 use Rattle.demands.proofs.Judge.{Returns, refusal-returns}
+use Rattle.demands.proofs.Spelled.{strict-same}
 use Rattle.chain.specs.Chain.{chainedTo, fromParsed, chained, handed, asFn, onLine, Serial, Bounded, fullest, Gives, Untested, Misfit, spoken}
 use Rattle.chain.proofs.Shared.{as-code, two-unknown}
 use Rattle.chain.proofs.Response.{spoken-line, closed, closed-line, gives}
@@ -48,6 +49,7 @@ use Rattle.chain.proofs.Parsed.{answers, Heard, ready}
 use Rattle.chain.proofs.Processed.{table, cells, stored-whole}
 use Rattle.chain.proofs.Carried.{coilsThen, holdingsThen, chain-read, chain-many}
 use Rattle.chain.proofs.Faults.{chain-unsupported, chain-read-outside, chain-many-refused}
+use Rattle.chain.proofs.Verdicts.{strictly}
 use Rattle.chain.proofs.Served.{unheard, table-sound, written-sound}
 use Rattle.chain.proofs.Excepted.{least-two, own}
 
@@ -142,7 +144,7 @@ length-refused TcpUdp (a ∷ b ∷ []) body f h n unit list l out =
     ap (λ (x : After). fromParsed x f l)
     (unparsed unit f list out (ap (begins TcpUdp 0) (h .whole) ∙ tcp-unbegun a b body n))
 
-module _ (numbers : Numbers) (list : List ℕ) (l : Lent) (reply frame out : List ℕ) (y : Bytes frame) where
+module _ (numbers : Numbers) (list : List ℕ) (l : Lent) (reply frame out : List ℕ) (y : Bytes frame) (strict : numbers .hex ≡ 0) where
   abbrev s : Setup
   s = setupOf numbers list l reply
 
@@ -177,14 +179,14 @@ module _ (numbers : Numbers) (list : List ℕ) (l : Lent) (reply frame out : Lis
       pub unknown-unshaped : Valid s → Roomy s → ¬ Shaped (proto s) frame
           → Differ (wrap (proto s) [] (unit ∷ exception f 1)) (l .coilBytes) (l .holdingBytes) 5 0 []
       unknown-unshaped valid roomy wrong =
-          (unknown-answered, refusal-returns s (tablesOf l) frame y (frame-broken valid roomy wrong))
+          (unknown-answered, refusal-returns s (tablesOf l) frame y (frame-broken valid roomy (rw (strict-same s frame strict) wrong)))
 
       -- the check wrong: FrameCheck
       pub unknown-unchecked : Valid s → Roomy s → Shaped (proto s) frame
           → ((tag body : List ℕ) → ¬ Framed (proto s) tag body frame)
           → Differ (wrap (proto s) [] (unit ∷ exception f 1)) (l .coilBytes) (l .holdingBytes) 6 0 []
       unknown-unchecked valid roomy shaped wrong =
-          (unknown-answered, refusal-returns s (tablesOf l) frame y (frame-check valid roomy shaped wrong))
+          (unknown-answered, refusal-returns s (tablesOf l) frame y (frame-check valid roomy (rw (strict-same s frame strict) shaped) (rw (strict-same s frame strict) wrong)))
 
     -- ---- a good frame of function 22 or 23, to us or to all: the chain answers by code 1, whether the driver serves it or not
 
@@ -196,7 +198,7 @@ module _ (numbers : Numbers) (list : List ℕ) (l : Lent) (reply frame out : Lis
       unfolding Broadcast Ours
       unknown-to-the-crate =
           let b = choose (listed? (unitOf m) list) true false in
-          let held = laid (proto s) (m .tag) (m .body) frame (sent .framed) within in
+          let held = laid (proto s) (m .tag) (m .body) frame (strictly s frame strict (sent .framed)) within in
           gives
           (chain-unsupported (held .0) (record { room = room; listed = refl; ours = reached }) l
           (omega (arith, sent .framed .low, least-two (proto s))) (elim new [ inl q ↦ omega arith | inr q ↦ omega arith ]) (two-unknown _ new))
@@ -240,7 +242,7 @@ module _ (numbers : Numbers) (list : List ℕ) (l : Lent) (reply frame out : Lis
           → wordAt (m .body) 2 ≤ cellsOf l t
           → Refused (wrap (proto s) (m .tag) (unitOf m ∷ codeOf (reads t) ∷ 0 ∷ [])) (l .coilBytes) (l .holdingBytes)
       nothing-read t k n z i =
-          let (h, g) = laid (proto s) (m .tag) (m .body) frame (k .sent .framed) within in
+          let (h, g) = laid (proto s) (m .tag) (m .body) frame (strictly s frame strict (k .sent .framed)) within in
           let (o, d) =
           nothing-shown t (storage t .cell (tableOf l t)) (wordAt (m .body) 2) (wordAt (m .body) 4) z in
           let w =
@@ -270,7 +272,7 @@ module _ (numbers : Numbers) (list : List ℕ) (l : Lent) (reply frame out : Lis
           → Refused (wrap (proto s) (m .tag) (take 6 (m .body))) (l .coilBytes)
           (store registers (l .holdingBytes) (wordAt (m .body) 2) (values word n (drop 7 (m .body))))
       uncounted-stored k long w most n z few inside =
-          let (h, g) = laid (proto s) (m .tag) (m .body) frame (k .sent .framed) within in
+          let (h, g) = laid (proto s) (m .tag) (m .body) frame (strictly s frame strict (k .sent .framed)) within in
           let d : length (drop 7 (m .body)) ≡ 2 * n = simp length-drop (omega (arith, long)) in
           let ok = written-sound numbers list l reply (k .sent .valid) word in
           let c = l .holdingBytes in
@@ -289,7 +291,7 @@ module _ (numbers : Numbers) (list : List ℕ) (l : Lent) (reply frame out : Lis
           → getD (m .body) 6 0 ≡ 0 → wordAt (m .body) 2 ≤ cells k l
           → Refused (wrap (proto s) (m .tag) (take 6 (m .body))) (l .coilBytes) (l .holdingBytes)
       nothing-written k j long z o inside =
-          let (h, g) = laid (proto s) (m .tag) (m .body) frame (j .sent .framed) within in
+          let (h, g) = laid (proto s) (m .tag) (m .body) frame (strictly s frame strict (j .sent .framed)) within in
           let d : length (drop 7 (m .body)) ≡ 0 = simp length-drop (omega (arith, long)) in
           let ok = written-sound numbers list l reply (j .sent .valid) k in
           let stores = empty-stored l k (m .body) z d ok inside (proto s) unit (answers b) (startOf (proto s)) in
@@ -311,14 +313,14 @@ module _ (numbers : Numbers) (list : List ℕ) (l : Lent) (reply frame out : Lis
           → Misfit l fn (m .body)
           → Refused (wrap (proto s) (m .tag) (unitOf m ∷ exception (numberOf m) 2)) (l .coilBytes) (l .holdingBytes)
       misfit-refused (reads t) k n u f =
-          let (h, g) = laid (proto s) (m .tag) (m .body) frame (k .sent .framed) within in
+          let (h, g) = laid (proto s) (m .tag) (m .body) frame (strictly s frame strict (k .sent .framed)) within in
           let c =
           chain-read-outside h (heard (asFn (reads t)) k) l g t (to-us t k) (k .called ∙ as-code (reads t)) n (omega arith)
           (table-sound numbers list l reply (k .sent .valid) t) (omega arith) in
           (gives c (own-line (asFn (reads t)) k), refuses (asFn (reads t)) k n (λ v. omega (arith, v)))
       misfit-refused (one j) k n u f = absurd f
       misfit-refused (many j) k n u f =
-          let (h, g) = laid (proto s) (m .tag) (m .body) frame (k .sent .framed) within in
+          let (h, g) = laid (proto s) (m .tag) (m .body) frame (strictly s frame strict (k .sent .framed)) within in
           let ok = written-sound numbers list l reply (k .sent .valid) j in
           let d : length (drop 7 (m .body)) ≡ getD (m .body) 6 0 = simp length-drop (omega (arith, n)) in
           let stops = misfit-stops l j (m .body) d ok f (proto s) unit (answers b) (startOf (proto s)) in

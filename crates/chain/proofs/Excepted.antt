@@ -37,7 +37,7 @@ use Rattle.chain.proofs.Laid.{Laid, Good, laid}
 use Rattle.chain.proofs.Parsed.{Heard, ready, answers}
 use Rattle.chain.proofs.Processed.{table, cells, stored-whole}
 use Rattle.chain.proofs.Faults.{excepted, chain-unsupported, chain-read-over, chain-many-over, chain-read-outside, chain-one-illegal, chain-one-outside, chain-many-refused}
-use Rattle.chain.proofs.Verdicts.{Why, no-function, bad-value, bad-address, refused, refused-reply}
+use Rattle.chain.proofs.Verdicts.{strictly, Why, no-function, bad-value, bad-address, refused, refused-reply}
 use Rattle.chain.proofs.Served.{unheard, table-sound, written-sound, legal, few-bytes}
 
 pub least-two : (p : ModbusProto) → 2 ≤ least p
@@ -132,7 +132,7 @@ module _ (numbers : Numbers) (list : List ℕ) (l : Lent) (reply : List ℕ) whe
         (λ len. beyond-refused v k body (simp length-drop (omega (arith, n, w))) (many-beyond k body i) p
         (answers b) start len)
 
-  module _ (frame out : List ℕ) (y : Bytes frame) (room : fullest (proto s) ≤ length out) (m : Message) (x : ℕ) where
+  module _ (frame out : List ℕ) (y : Bytes frame) (strict : numbers .hex ≡ 0) (room : fullest (proto s) ≤ length out) (m : Message) (x : ℕ) where
     abbrev b : Bool
     b = choose (listed? (unitOf m) list) true false
 
@@ -147,14 +147,14 @@ module _ (numbers : Numbers) (list : List ℕ) (l : Lent) (reply : List ℕ) whe
       why-excepted : (x : ℕ) → Why s frame m x → Answers x
       unfolding Broadcast Ours
       why-excepted x (no-function sent reached low none) =
-          let held = laid (proto s) (m .tag) (m .body) frame (sent .framed) within in
+          let held = laid (proto s) (m .tag) (m .body) frame (strictly s frame strict (sent .framed)) within in
           chain-unsupported (held .0) (record { room = room; listed = refl; ours = reached }) l
           (omega (arith, sent .framed .low, least-two (proto s))) low (λ fn q. none (asFn fn) (q ∙ sym (as-code fn)))
       why-excepted x (bad-value f kf nf wf) =
           let (fn, e) = shared f (kf .called) in
           let (k, n, w) = subst (λ (g : Fn). Known s frame m g × Lengthy g (m .body) × (¬ Valued g (m .body))) e (kf, nf, wf) in
           let c = k .called ∙ as-code fn in
-          let held = laid (proto s) (m .tag) (m .body) frame (k .sent .framed) within in
+          let held = laid (proto s) (m .tag) (m .body) frame (strictly s frame strict (k .sent .framed)) within in
           value-excepted (held .0) (held .1) out b (record { room = room; listed = refl; ours = k .reached })
           (k .sent .valid) fn c (λ q i. k .heeded (holds _ _ refl q, i)) n
           (omega (arith, k .sent .framed .high, most-body (proto s))) w (tested fn c)
@@ -162,7 +162,7 @@ module _ (numbers : Numbers) (list : List ℕ) (l : Lent) (reply : List ℕ) whe
           let (fn, e) = shared f (kf .called) in
           let (k, n, w, j) = subst (λ (g : Fn). Known s frame m g × Lengthy g (m .body) × Valued g (m .body) × (¬ Inside s (asked g (m .body)))) e
           (kf, nf, wf, jf) in
-          let held = laid (proto s) (m .tag) (m .body) frame (k .sent .framed) within in
+          let held = laid (proto s) (m .tag) (m .body) frame (strictly s frame strict (k .sent .framed)) within in
           address-excepted (held .0) (held .1) out b (record { room = room; listed = refl; ours = k .reached })
           (k .sent .valid) fn (k .called ∙ as-code fn) (λ q i. k .heeded (holds _ _ refl q, i)) n w j
 

@@ -33,7 +33,7 @@ use Rattle.chain.proofs.Shared.{as-code}
 use Rattle.chain.proofs.Response.{closed, spoken-line, gives}
 use Rattle.chain.proofs.Laid.{Laid, Good, laid}
 use Rattle.chain.proofs.Parsed.{ready, answers, Heard}
-use Rattle.chain.proofs.Verdicts.{Judged, judged, served-reply}
+use Rattle.chain.proofs.Verdicts.{strictly, Judged, judged, served-reply}
 use Rattle.chain.proofs.Processed.{table, cells, stored-whole}
 use Rattle.chain.proofs.Carried.{coilsThen, holdingsThen, written, chain-read, chain-one, chain-many}
 
@@ -83,10 +83,10 @@ module _ (numbers : Numbers) (list : List ℕ) (l : Lent) (reply : List ℕ) whe
 
   -- a valid setup's tables count whole
   pub table-sound : Valid s → (t : Tab) → Sound (storage t) (tableOf l t) (cellsOf l t)
-  table-sound v coils = v .1 .0
-  table-sound v discretes = v .1 .1 .0
-  table-sound v holdings = v .1 .1 .1 .0
-  table-sound v inputs = v .1 .1 .1 .1
+  table-sound v coils = v .1 .1 .0
+  table-sound v discretes = v .1 .1 .1 .0
+  table-sound v holdings = v .1 .1 .1 .1 .0
+  table-sound v inputs = v .1 .1 .1 .1 .1
 
   pub written-sound : Valid s → (k : Kind)
       → Sound (storage (target k)) (table k l) (cells k l)
@@ -183,7 +183,7 @@ module _ (numbers : Numbers) (list : List ℕ) (l : Lent) (reply : List ℕ) whe
         (λ len. stored-many k body len (simp length-drop (omega (arith, n, w))) (written-sound v k)
         (many-within k body i) p (answers b) start))
 
-  module _ (frame out : List ℕ) (y : Bytes frame) (room : fullest (proto s) ≤ length out) (m : Message) (a : Ask) where
+  module _ (frame out : List ℕ) (y : Bytes frame) (strict : numbers .hex ≡ 0) (room : fullest (proto s) ≤ length out) (m : Message) (a : Ask) where
     -- the chain over the frame's bytes, on a request of the driver
     abbrev Chains : Ask → Bool → Type 0
     Chains x b =
@@ -200,7 +200,7 @@ module _ (numbers : Numbers) (list : List ℕ) (l : Lent) (reply : List ℕ) whe
         let (fn, q) = shared f (i .known .called) in
         let j : Judged s frame m a (asFn fn) = subst (Judged s frame m a) q i in
         let framed = j .known .sent .framed in
-        let held = laid (proto s) (m .tag) (m .body) frame framed within in
+        let held = laid (proto s) (m .tag) (m .body) frame (strictly s frame strict framed) within in
         let b = choose (listed? (unitOf m) list) true false in
         let w = subst (λ (x : Ask). Chains x b) (j .asks)
         (chain-serves (held .0) (held .1) out b (record { room = room; listed = refl; ours = j .known .reached })

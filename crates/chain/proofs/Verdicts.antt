@@ -9,20 +9,25 @@ use native.Mathlib.Omega.{arith}
 use Rattle.modbus.specs.Step.{Step, stop, go, choose}
 use Rattle.modbus.specs.Bytes.{Bytes}
 use Rattle.modbus.specs.Request.{Fn, code, offered, exception, Ask, answer, seen, found, apply}
-use Rattle.modbus.specs.Frame.{wrap}
+use Rattle.modbus.specs.Frame.{wrap, Framed}
 use Rattle.modbus.specs.Setup.{Setup, proto}
 use Rattle.modbus.specs.Unit.{listed?, Broadcast, broadcast?, Ours}
 use Rattle.modbus.specs.Decode.{Message, unitOf, numberOf, Silent, Lengthy, Valued, asked}
-use Rattle.modbus.specs.Drive.{Inside, Fault, quiet, coded, judge, Result, settle, drive}
+use Rattle.modbus.specs.Drive.{Inside, Fault, quiet, coded, spelled, judge, Result, settle, drive}
 use Rattle.modbus.proofs.StepLaws.{bound, needed, bound-stop, needed-stop, pick-yes, pick-no, holds, holds-not}
-use Rattle.modbus.proofs.FrameLaws.{sound}
+use Rattle.modbus.proofs.FrameLaws.{sound, bytes-spelled}
 use Rattle.modbus.proofs.FindLaws.{find-fn, found-fn, found-none, found-fault}
 use Rattle.modbus.proofs.DriveLaws.{went-quietly, stopped-quietly}
 use Rattle.demands.specs.Order.{Sent, Known}
+use Rattle.demands.proofs.Spelled.{strict-same}
 use Rattle.tables.specs.Lent.{Lent, tablesOf}
 use Rattle.driver.specs.Driven.{setupOf}
 use Rattle.driver.specs.declared.Setup.{Setup as Numbers}
 use Rattle.chain.specs.Chain.{spoken}
+
+-- strict, the frame is as it stands: the crate's calls know no other reading
+pub strictly : (s : Setup) (f : List ℕ) → s .hex ≡ 0 → {tag body : List ℕ} → Framed (proto s) tag body (spelled s f) → Framed (proto s) tag body f
+strictly s f e {tag} {body} h = subst (Framed (proto s) tag body) (strict-same s f e) h
 
 -- ---- a frame that is served
 
@@ -47,7 +52,7 @@ judged s f m a y e =
     needed _ _ _ e₇ λ lengthy e₈.
     needed _ _ _ e₈ λ valued e₉.
     needed _ _ _ e₉ λ inside e₁₀.
-    let sent : Sent s f n = record { valid = valid; roomy = roomy; framed = sound _ f n y (went-quietly _ unwrapped) }
+    let sent : Sent s f n = record { valid = valid; roomy = roomy; framed = sound _ (spelled s f) n (bytes-spelled (proto s) (s .hex) f y) (went-quietly _ unwrapped) }
     in
     let z : _≡_ {A = Message × Ask} (n, asked fn (n .body)) (m, a) = cc in
     subst (λ w. (fn : Fn) × Judged s f (w .0) (w .1) fn) z (
@@ -84,7 +89,7 @@ refused s f m x y e =
     needed-stop _ _ _ e (λ _ q. no-code q) λ valid e₁.
     needed-stop _ _ _ e₁ (λ _ q. no-code q) λ roomy e₂.
     bound-stop _ _ e₂ (λ q. stopped-quietly _ q λ _ _ z. no-code z) λ n unwrapped e₃.
-    let sent : Sent s f n = record { valid = valid; roomy = roomy; framed = sound _ f n y (went-quietly _ unwrapped) }
+    let sent : Sent s f n = record { valid = valid; roomy = roomy; framed = sound _ (spelled s f) n (bytes-spelled (proto s) (s .hex) f y) (went-quietly _ unwrapped) }
     in
     needed-stop _ _ _ e₃ (λ _ q. no-code q) λ reached e₄.
     needed-stop _ _ _ e₄ (λ _ q. no-code q) λ low e₅.

@@ -1,14 +1,15 @@
 // The checks of MODBUS over serial lines, and the hexadecimal digits of its ASCII form.
 use modbus::ByteAnswer;
 use modbus::ErrorKind;
+use modbus::HexAnswer;
 use octets::least;
 use std::num::wrapping_sub_u8;
 ghost use mathlib.Core.Path.{_≡_};
 ghost use Prim.Native.Nat.{_*_, _/_, _≤_};
 ghost use lib.ListN.{length, take, drop};
-ghost use Rattle.modbus.specs.Paper.{told, bytePaper};
+ghost use Rattle.modbus.specs.Paper.{told, toldKind, bytePaper, hexPaper};
 ghost use Rattle.modbus.specs.Check.{shift, crcByte, crcFrom, crc};
-ghost use Rattle.modbus.specs.Hex.{undigit, character};
+ghost use Rattle.modbus.specs.Hex.{undigit, kinded, spell, character};
 ghost use Rattle.checks.specs.Within.{lrcWithin};
 
 fn crc_shift(crc: u32) -> u32
@@ -119,14 +120,32 @@ pub fn calc_lrc(frame: &[u8], data_length: u8) -> ByteAnswer
     ByteAnswer::Value(lrc)
 }
 
-// What a character 0-9 or A-F stands for.
-pub fn chr_to_hex(c: u8) -> ByteAnswer
-    ensures { λ r. ⌜ bytePaper r ≡ told (undigit c) ⌝ }
+// What a character 0-9, A-F or a-f stands for, and which kind it is.
+pub fn chr_to_hex(c: u8) -> HexAnswer
+    ensures { λ r. ⌜ hexPaper r ≡ toldKind (kinded c) ⌝ }
 {
     match c {
-        48..=57 => ByteAnswer::Value(c - 48),
-        65..=70 => ByteAnswer::Value(c - 55),
-        _ => ByteAnswer::Refused(ErrorKind::FrameBroken),
+        48..=57 => HexAnswer::Number(c - 48),
+        65..=70 => HexAnswer::Capital(c - 55),
+        97..=102 => HexAnswer::Small(c - 87),
+        _ => HexAnswer::Refused(ErrorKind::FrameBroken),
+    }
+}
+
+// What a character stands for under a switch: where it is 0, a-f are no digits.
+pub fn digit_under(c: u8, hex: u8) -> ByteAnswer
+    ensures { λ r. ⌜ bytePaper r ≡ told (undigit (spell hex c)) ⌝ }
+{
+    match chr_to_hex(c) {
+        HexAnswer::Number(v) => ByteAnswer::Value(v),
+        HexAnswer::Capital(v) => ByteAnswer::Value(v),
+        HexAnswer::Small(v) => {
+            if hex == 0 {
+                return ByteAnswer::Refused(ErrorKind::FrameBroken);
+            }
+            ByteAnswer::Value(v)
+        }
+        HexAnswer::Refused(k) => ByteAnswer::Refused(k),
     }
 }
 

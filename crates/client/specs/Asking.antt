@@ -75,7 +75,7 @@ permitted? (swaps r n s vs) = five? (1 ≤? n) (n ≤? mostRead word) (countFit?
 
 -- a unit with all the cells that can be named
 abbrev pub everyCell : ℕ → Setup
-everyCell n = record { transport = n; unit = 0; broadcasts = []; cells = λ tab. 65536; bytes = λ tab. 131072; room = 511 }
+everyCell n = record { transport = n; unit = 0; hex = 0; broadcasts = []; cells = λ tab. 65536; bytes = λ tab. 131072; room = 511 }
 
 -- ---- building
 

@@ -145,7 +145,7 @@ pub(crate) fn hear(
         return told(0, 9, 0);
     }
     let mut raw = [0u8; 256];
-    let n = open(proto, response, &mut raw);
+    let n = open(proto, 0, response, &mut raw);
     if n < 2 {
         return told(0, n as u8 + 5, 0);
     }

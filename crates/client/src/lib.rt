@@ -173,7 +173,8 @@ fn answer_to(proto: u8, request: &[u8], sent: &[u8], response: &[u8], values: &m
     }
 }
 
-// Reads a reply against the frame of its request. The values of the cells go to the front of `values`.
+// Reads a reply against the frame of its request, both strictly: on ASCII they are in capitals. The values of the cells go to the front of
+// `values`.
 pub fn parse_response(proto: u8, request: &[u8], response: &[u8], values: &mut [u16]) -> Reading
     ensures { λ r. ⌜ (r, now (values .exit)) ≡ readInto (now (values .entry)) (understood proto (now (request .entry)) (now (response .entry)) (length (now (values .entry)))) ⌝ }
 {
@@ -181,7 +182,7 @@ pub fn parse_response(proto: u8, request: &[u8], response: &[u8], values: &mut [
         return told(0, 11, 0);
     }
     let mut raw = [0u8; 256];
-    let n = open(proto, request, &mut raw);
+    let n = open(proto, 0, request, &mut raw);
     if n < 2 {
         return told(0, 11, 0);
     }

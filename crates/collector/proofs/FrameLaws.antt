@@ -10,8 +10,8 @@ use lib.Seq.{take-all}
 use Rattle.modbus.specs.Step.{stop, _≤?_, _≟_}
 use Rattle.modbus.specs.Paper.{protoOf}
 use Rattle.modbus.specs.Setup.{Setup, proto, Valid, valid?, Roomy, roomy?}
-use Rattle.modbus.specs.Decode.{frameBroken, unwrap}
-use Rattle.modbus.specs.Drive.{judge}
+use Rattle.modbus.specs.Decode.{frameBroken, unwrap, spelledIn}
+use Rattle.modbus.specs.Drive.{spelled, judge}
 use Rattle.modbus.specs.declared.ModbusProto.{ModbusProto}
 use Rattle.modbus.specs.declared.ModbusProto.the-variants.{Rtu}
 use Rattle.modbus.proofs.StepLaws.{fail}
@@ -34,7 +34,7 @@ unwrap-cut f = by (length f ≤? 257)
     by (yes h) = ap (unwrap Rtu) (take-all 257 f h)
     by (no h) = too-long (take 257 f) (simp length-take (omega arith)) ∙ sym (too-long f (omega arith))
 
-judge-same : (s : Setup) (f g : List ℕ) → unwrap (proto s) f ≡ unwrap (proto s) g → judge s f ≡ judge s g
+judge-same : (s : Setup) (f g : List ℕ) → unwrap (proto s) (spelled s f) ≡ unwrap (proto s) (spelled s g) → judge s f ≡ judge s g
 unfolding judge
 judge-same s f g e = rw e
 
@@ -43,7 +43,7 @@ module _ (n : Numbers) (list : List ℕ) (l : Lent) (f reply : List ℕ) where
   unfolding driven
   called-cut z =
       let s = setupOf n list l reply in
-      let e = subst (λ (p : ModbusProto). unwrap p (take 257 f) ≡ unwrap p f) (sym (ap protoOf z)) (unwrap-cut f) in
+      let e = subst (λ (p : ModbusProto). unwrap p (spelledIn p (n .hex) (take 257 f)) ≡ unwrap p (spelledIn p (n .hex) f)) (sym (ap protoOf z)) (unwrap-cut f) in
       ap (settled s l reply) (judge-same s (take 257 f) f e)
 
   -- too many bytes: BadSetup, NoRoom or FrameBroken, in this order, and every buffer as lent
@@ -57,5 +57,5 @@ module _ (n : Numbers) (list : List ℕ) (l : Lent) (f reply : List ℕ) where
       by (yes z) (no v) r = inl (rtu-driven n list l f reply z ∙ sym (bad-called n list l f reply v))
       by (yes z) (yes v) (no r) = inr (inl (rtu-driven n list l f reply z ∙ sym (roomless-called n list l f reply v r)))
       by (yes z) (yes v) (yes r) =
-          let e = subst (λ (p : ModbusProto). unwrap p f ≡ stop frameBroken) (sym (ap protoOf z)) (too-long f h) in
+          let e = subst (λ (p : ModbusProto). unwrap p (spelledIn p (n .hex) f) ≡ stop frameBroken) (sym (ap protoOf z)) (too-long f h) in
           inr (inr (rtu-driven n list l f reply z ∙ sym (unopened-called n list l f reply v r 0 (sym (ap opened e)) (omega arith))))

@@ -17,7 +17,7 @@ pub data Event : Type 0 where
   falls : ℕ → ℕ → ℕ → ℕ → List ℕ → List ℕ → Event
 
 abbrev numbers : ℕ → Numbers
-numbers t = record { transport = t; unit = 1; «coil_cells» = 16; «discrete_cells» = 0; «holding_cells» = 4; «input_cells» = 0 }
+numbers t = record { transport = t; unit = 1; hex = 0; «coil_cells» = 16; «discrete_cells» = 0; «holding_cells» = 4; «input_cells» = 0 }
 
 abbrev quietedIn : ℕ → ℕ → List ℕ → List ℕ → Leaves × List ℕ
 quietedIn t room s h = leftBy (quieted (numbers t) (0 ∷ []) (lentIn (numbers t) (0 ∷ 0 ∷ []) [] h []) s (replicate room 0))

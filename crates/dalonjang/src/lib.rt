@@ -10,7 +10,7 @@ ghost use lib.ListN.{length};
 ghost use Rattle.modbus.specs.Step.{go};
 ghost use Rattle.modbus.specs.Request.{masks, swaps};
 ghost use Rattle.modbus.specs.Paper.{toldWith};
-ghost use Rattle.ascii.specs.Reading.{parsedInto, generatedInto};
+ghost use Rattle.ascii.specs.Reading.{parsedUnder, generatedInto};
 ghost use Rattle.lengths.specs.Guess.{requestBody, responseBody};
 ghost use Rattle.driver.specs.Driven.{lentIn, leaving, called};
 ghost use Rattle.client.specs.Asking.{getting, setting, generated, laidInto, understood, readInto};
@@ -84,10 +84,11 @@ pub extern "C" fn dalonjang_parse_ascii_frame(
     data_len: usize,
     frame_buf: &mut [u8],
     frame_pos: u8,
+    hex: u8,
 ) -> Answer
-    ensures { λ r. ⌜ ((r .kind, r .value), now («frame_buf» .exit)) ≡ parsedInto (now («data» .entry)) «data_len» (now («frame_buf» .entry)) «frame_pos» ⌝ }
+    ensures { λ r. ⌜ ((r .kind, r .value), now («frame_buf» .exit)) ≡ parsedUnder hex (now («data» .entry)) «data_len» (now («frame_buf» .entry)) «frame_pos» ⌝ }
 {
-    modbus::byte_answer(ascii::parse_ascii_frame(data, data_len, frame_buf, frame_pos))
+    modbus::byte_answer(ascii::parse_ascii_frame(data, data_len, frame_buf, frame_pos, hex))
 }
 
 #[no_mangle]
@@ -97,34 +98,37 @@ pub extern "C" fn dalonjang_generate_ascii_frame(data: &[u8], result: &mut [u8])
     modbus::size_answer(ascii::generate_ascii_frame(data, result))
 }
 
-// A request's length, or a response's, by the transport's number.
-fn guess_frame_len(request: bool, frame: &[u8], proto: u8) -> Answer
-    ensures { λ r. ⌜ (r .kind, r .value) ≡ guessed (sideBody request) proto (now (frame .entry)) ⌝ }
+// A request's length, or a response's, by the switch and the transport's number.
+fn guess_frame_len(request: bool, frame: &[u8], proto: u8, hex: u8) -> Answer
+    ensures { λ r. ⌜ (r .kind, r .value) ≡ guessed hex (sideBody request) proto (now (frame .entry)) ⌝ }
 {
+    if 1 < hex {
+        return Answer { value: 0, kind: 21 };
+    }
     let transport = modbus::proto_of(proto);
     match transport {
         ProtoAnswer::BadSetup => Answer { value: 0, kind: 10 },
         ProtoAnswer::Value(p) => {
             if request {
-                return modbus::byte_answer(lengths::guess_request_frame_len(frame, p));
+                return modbus::byte_answer(lengths::guess_request_frame_len(frame, p, hex));
             }
-            modbus::byte_answer(lengths::guess_response_frame_len(frame, p))
+            modbus::byte_answer(lengths::guess_response_frame_len(frame, p, hex))
         }
     }
 }
 
 #[no_mangle]
-pub extern "C" fn dalonjang_guess_request_frame_len(frame: &[u8], proto: u8) -> Answer
-    ensures { λ r. ⌜ (r .kind, r .value) ≡ guessed requestBody proto (now (frame .entry)) ⌝ }
+pub extern "C" fn dalonjang_guess_request_frame_len(frame: &[u8], proto: u8, hex: u8) -> Answer
+    ensures { λ r. ⌜ (r .kind, r .value) ≡ guessed hex requestBody proto (now (frame .entry)) ⌝ }
 {
-    guess_frame_len(true, frame, proto)
+    guess_frame_len(true, frame, proto, hex)
 }
 
 #[no_mangle]
-pub extern "C" fn dalonjang_guess_response_frame_len(buf: &[u8], proto: u8) -> Answer
-    ensures { λ r. ⌜ (r .kind, r .value) ≡ guessed responseBody proto (now (buf .entry)) ⌝ }
+pub extern "C" fn dalonjang_guess_response_frame_len(buf: &[u8], proto: u8, hex: u8) -> Answer
+    ensures { λ r. ⌜ (r .kind, r .value) ≡ guessed hex responseBody proto (now (buf .entry)) ⌝ }
 {
-    guess_frame_len(false, buf, proto)
+    guess_frame_len(false, buf, proto, hex)
 }
 
 #[no_mangle]

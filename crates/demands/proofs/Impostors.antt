@@ -12,8 +12,9 @@ use Rattle.modbus.specs.Table.{bit, Tables, Tab, coils, holdings, part}
 use Rattle.modbus.specs.Storage.{values}
 use Rattle.modbus.specs.Frame.{Framed}
 use Rattle.modbus.specs.Setup.{Setup, proto, Valid, Roomy}
-use Rattle.modbus.specs.Decode.{crcBytes, unwrap}
-use Rattle.modbus.specs.Drive.{drive}
+use Rattle.modbus.specs.Decode.{crcBytes, unwrap, spelledIn}
+use Rattle.modbus.specs.Drive.{spelled, drive}
+use Rattle.modbus.specs.declared.ModbusProto.{ModbusProto}
 use Rattle.modbus.specs.declared.ModbusProto.the-variants.{Rtu}
 use Rattle.modbus.proofs.StepLaws.{needed}
 use Rattle.modbus.proofs.FrameLaws.{complete}
@@ -100,9 +101,10 @@ module _ (D : Driver) where
   pub answering-unchecked : (s : Setup) (t : Tables) (f : List ℕ) → Bytes f → Valid s → Roomy s → proto s ≡ Rtu
       → 4 ≤ length f → length f ≤ 256 → drop (length f - 2) f ≢ crcBytes (take (length f - 2) f) → D s t f .reply ≢ [] → ¬ Meets D
   answering-unchecked s t f y v r e low high n h m =
-      let bad : (tag body : List ℕ) → ¬ Framed (proto s) tag body f = rw e (unframed f n) in
+      let same : spelled s f ≡ f = ap (λ (p : ModbusProto). spelledIn p (s .hex) f) e in
+      let bad : (tag body : List ℕ) → ¬ Framed (proto s) tag body (spelled s f) = rw (same, e) (unframed f n) in
       let none : ¬ ((q : Request) × Serves s f q) = λ (q, w). bad _ _ (w .encoded .2) in
-      h (one-refusal s f y (m s t f y v r .refused none) (frame-check v r (rw e (low, high)) bad) .2)
+      h (one-refusal s f y (m s t f y v r .refused none) (frame-check v r (rw (same, e) (low, high)) bad) .2)
 
 -- ---- calls on bytes, which the demand alone does not tell from the driver: it asks for a valid setup with reply room
 

@@ -14,10 +14,10 @@ use Rattle.modbus.specs.Frame.{Framed}
 use Rattle.modbus.specs.Setup.{Setup, proto, Valid, Roomy}
 use Rattle.modbus.specs.Unit.{Broadcast, broadcast?, Ours}
 use Rattle.modbus.specs.Decode.{Message, unitOf, numberOf, Silent, readIgnored, foreign, frameBroken, frameCheck, wrongLength, badFunction, noRoom, badSetup, outcomeOf, unwrap, IsRead, isRead?, asked}
-use Rattle.modbus.specs.Drive.{Inside, Fault, quiet, coded, find, fromFunction, fromUnit, judge, Result, silently, replying, settle, drive}
+use Rattle.modbus.specs.Drive.{Inside, Fault, quiet, coded, find, fromFunction, fromUnit, spelled, judge, Result, silently, replying, settle, drive}
 use Rattle.modbus.proofs.StepLaws.{pass, fail, follow, halt, bound, needed, bound-stop, needed-stop, pick-yes, pick-no, either}
 use Rattle.modbus.proofs.RequestLaws.{asked-says, says-heard, fn-asked}
-use Rattle.modbus.proofs.FrameLaws.{sound, complete}
+use Rattle.modbus.proofs.FrameLaws.{sound, complete, bytes-spelled}
 use Rattle.modbus.proofs.FindLaws.{code-low, find-fn, found-fn, find-none, found-none, found-fault}
 use Rattle.modbus.proofs.DriveLaws.{quietly-go, quietly-stop, went-quietly, stopped-quietly}
 use Rattle.demands.specs.Demand.{Request, Addressed, Serves}
@@ -29,7 +29,7 @@ module _ (s : Setup) (f : List ℕ) where
   pub judge-sent : (m : Message) → Sent s f m → judge s f ≡ fromUnit s m
   unfolding judge
   judge-sent m h =
-      pass _ _ _ (h .valid) ∙ pass _ _ _ (h .roomy) ∙ follow _ _ (quietly-go _ (complete _ _ _ f (h .framed)))
+      pass _ _ _ (h .valid) ∙ pass _ _ _ (h .roomy) ∙ follow _ _ (quietly-go _ (complete _ _ _ (spelled s f) (h .framed)))
 
   judge-known : (m : Message) (fn : Fn) → Known s f m fn → judge s f ≡ fromFunction s m fn
   judge-known m fn h =
@@ -73,13 +73,13 @@ module _ (s : Setup) (f : List ℕ) (y : Bytes f) where
       needed _ _ _ e₇ λ lengthy e₈.
       needed _ _ _ e₈ λ valued e₉.
       needed _ _ _ e₉ λ inside e₁₀.
-      let framed = sound _ f n y (went-quietly _ unwrapped) in
+      let framed = sound _ (spelled s f) n (bytes-spelled (proto s) (s .hex) f y) (went-quietly _ unwrapped) in
       let says = asked-says fn (n .body) (framed .bytes) (found-fn code _ _ _ fn called) lengthy valued in
       let z : _≡_ {A = Message × Ask} (n, asked fn (n .body)) (m, a) = cc in
       subst (λ w. Serves s f (requested (w .0) (w .1))) z
       (record {
         permitted = says .permitted;
-        encoded = (drop 1 (n .body), says .encodes, subst (λ b. Framed (proto s) (n .tag) b f) (says .headed) framed);
+        encoded = (drop 1 (n .body), says .encodes, subst (λ b. Framed (proto s) (n .tag) b (spelled s f)) (says .headed) framed);
         inside = inside;
         addressed = addressed s n fn (asked fn (n .body)) (fn-asked fn (n .body)) (broadcast? s (unitOf n)) reached heeded;
       })
@@ -128,9 +128,9 @@ module _ (s : Setup) (t : Tables) (f : List ℕ) where
   refusal-returns y (bad-setup n) = quiet-returns badSetup (fail _ _ _ n)
   refusal-returns y (no-room v n) = quiet-returns noRoom (pass _ _ _ v ∙ fail _ _ _ n)
   refusal-returns y (frame-broken v r n) =
-      quiet-returns frameBroken (pass _ _ _ v ∙ pass _ _ _ r ∙ halt _ _ (quietly-stop _ (broken (proto s) f .1 n)))
+      quiet-returns frameBroken (pass _ _ _ v ∙ pass _ _ _ r ∙ halt _ _ (quietly-stop _ (broken (proto s) (spelled s f) .1 n)))
   refusal-returns y (frame-check v r h n) =
-      quiet-returns frameCheck (pass _ _ _ v ∙ pass _ _ _ r ∙ halt _ _ (quietly-stop _ (unchecked (proto s) f y .1 (h, n))))
+      quiet-returns frameCheck (pass _ _ _ v ∙ pass _ _ _ r ∙ halt _ _ (quietly-stop _ (unchecked (proto s) (spelled s f) (bytes-spelled (proto s) (s .hex) f y) .1 (h, n))))
   refusal-returns y (foreign-unit m h n k) =
       quiet-returns foreign (judge-sent s f m h ∙ fail _ _ _ (λ r. elim r [ inl b ↦ n b | inr o ↦ k o ]))
   refusal-returns y (bad-function m h r k) =
@@ -160,13 +160,13 @@ module _ (s : Setup) (t : Tables) (f : List ℕ) where
       (λ b. k _ _ (ignored c b))
       (λ n. k _ _ (exception-sent c n))
 
-  frame-refused : Bytes f → Valid s → Roomy s → (o : Silent) → unwrap (proto s) f ≡ stop o → Refused (quiet o)
+  frame-refused : Bytes f → Valid s → Roomy s → (o : Silent) → unwrap (proto s) (spelled s f) ≡ stop o → Refused (quiet o)
   unfolding settle
-  frame-refused y v r o e = by (faults (proto s) f o e)
+  frame-refused y v r o e = by (faults (proto s) (spelled s f) o e)
     where
       by : (o ≡ frameBroken) ⊎ (o ≡ frameCheck) → Refused (quiet o)
-      by (inl q) = rw q (frame-broken v r (broken (proto s) f .0 (rw q at e)))
-      by (inr q) = let (h, n) = unchecked (proto s) f y .0 (rw q at e) in rw q (frame-check v r h n)
+      by (inl q) = rw q (frame-broken v r (broken (proto s) (spelled s f) .0 (rw q at e)))
+      by (inr q) = let (h, n) = unchecked (proto s) (spelled s f) (bytes-spelled (proto s) (s .hex) f y) .0 (rw q at e) in rw q (frame-check v r h n)
 
   function-refused : (m : Message) → Sent s f m → Broadcast s (unitOf m) ⊎ Ours s (unitOf m) → numberOf m ≤ 127 → {x : Fault}
       → find code (coded m 1) (numberOf m) (offered (proto s)) ≡ stop x → Refused x
@@ -186,7 +186,8 @@ module _ (s : Setup) (t : Tables) (f : List ℕ) where
       needed-stop _ _ _ e (λ n q. subst Refused q (bad-setup n)) λ valid e₁.
       needed-stop _ _ _ e₁ (λ n q. subst Refused q (no-room valid n)) λ roomy e₂.
       bound-stop _ _ e₂ (λ q. stopped-quietly _ q λ o p z. subst Refused z (frame-refused y valid roomy o p)) λ m unwrapped e₃.
-      let sent : Sent s f m = record { valid = valid; roomy = roomy; framed = sound _ f m y (went-quietly _ unwrapped) } in
+      let sent : Sent s f m =
+      record { valid = valid; roomy = roomy; framed = sound _ (spelled s f) m (bytes-spelled (proto s) (s .hex) f y) (went-quietly _ unwrapped) } in
       needed-stop _ _ _ e₃ (λ n q. subst Refused q (foreign-unit m sent (λ b. n (inl b)) (λ o. n (inr o)))) λ reached e₄.
       needed-stop _ _ _ e₄ (λ n q. subst Refused q (bad-function m sent reached (omega (arith, n)))) λ low e₅.
       bound-stop _ _ e₅ (λ q. function-refused m sent reached low q) λ fn found e₆.

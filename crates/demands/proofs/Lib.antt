@@ -4,6 +4,7 @@ pub mod CellLaws
 pub mod Judge
 pub mod StoredLaws
 pub mod Third
+pub mod Spelled
 pub mod Exactly
 pub mod MaskAndBoth
 pub mod Replies

@@ -1,25 +1,26 @@
 -- A reply of the driver is a well-formed frame of its transport and never longer than the room that the setup must have; it is of bytes, where
--- the tables hold what cells can hold.
+-- the tables hold what cells can hold, and then has no small letter on ASCII.
 -- Assumes nothing.
 use mathlib.Core.Logic.{_⊎_, inl, inr}
-use mathlib.Core.Path.{_≡_, refl}
+use mathlib.Core.Path.{_≡_, refl, subst}
 use mathlib.Core.List.{List, [], _∷_}
 use Prim.Native.Nat.{ℕ, _≤_}
 use native.Mathlib.Omega.{arith}
 use lib.ListN.{length}
 use Rattle.modbus.specs.Step.{go}
-use Rattle.modbus.specs.Bytes.{Bytes}
+use Rattle.modbus.specs.Bytes.{All, Bytes}
 use Rattle.modbus.specs.Table.{Tables}
 use Rattle.modbus.specs.Request.{Ask, fnOf, answer, apply, seen, found, exception}
 use Rattle.modbus.specs.Frame.{wrap, tagLength, around}
 use Rattle.modbus.specs.Setup.{Setup, proto, roomFor}
 use Rattle.modbus.specs.Decode.{Message, unitOf, numberOf}
-use Rattle.modbus.specs.Drive.{judge, Result, settle, drive}
+use Rattle.modbus.specs.Drive.{spelled, judge, Result, settle, drive}
 use Rattle.modbus.specs.declared.ModbusProto.{ModbusProto}
 use Rattle.modbus.specs.declared.ModbusProto.the-variants.{Rtu, Ascii, TcpUdp}
 use Rattle.modbus.proofs.StepLaws.{either}
 use Rattle.modbus.proofs.BytesLaws.{byte-at}
-use Rattle.modbus.proofs.FrameLaws.{length-wrap, bytes-wrap, bytes-tag}
+use Rattle.modbus.proofs.FrameLaws.{length-wrap, bytes-wrap, bytes-tag, bytes-spelled, wrap-capital}
+use Rattle.modbus.proofs.HexLaws.{Small}
 use Rattle.modbus.proofs.AnswerLaws.{Proper, answer-fits, answer-bytes}
 use Rattle.modbus.proofs.DriveLaws.{by-judge}
 use Rattle.modbus.proofs.FindLaws.{code-low}
@@ -50,7 +51,7 @@ module _ (s : Setup) (t : Tables) (f : List ℕ) (y : Bytes f) where
         tag = m .tag;
         body = unitOf m ∷ exception (numberOf m) c;
         tagged = h .framed .tagged;
-        tagBytes = bytes-tag (proto s) (m .tag) (m .body) f (h .framed) y;
+        tagBytes = bytes-tag (proto s) (m .tag) (m .body) (spelled s f) (h .framed) (bytes-spelled (proto s) (s .hex) f y);
         bytes = λ _. (byte-at (m .body) 0 (h .framed .bytes), (omega arith, (omega arith, tt)));
         low = omega arith;
         high = omega arith;
@@ -82,7 +83,7 @@ module _ (s : Setup) (t : Tables) (f : List ℕ) (y : Bytes f) where
         tag = m .tag;
         body = unitOf m ∷ answer a (found a (seen (apply a t)));
         tagged = framed .tagged;
-        tagBytes = bytes-tag (proto s) (m .tag) (unitOf m ∷ l) f framed y;
+        tagBytes = bytes-tag (proto s) (m .tag) (unitOf m ∷ l) (spelled s f) framed (bytes-spelled (proto s) (s .hex) f y);
         bytes = λ proper. (framed .bytes .0, answer-bytes a t l proper (h .permitted) encodes (framed .bytes .1));
         low = omega (arith, n .low);
         high = omega (arith, n .high);
@@ -96,7 +97,7 @@ module _ (s : Setup) (t : Tables) (f : List ℕ) (y : Bytes f) where
       (λ x e. rw e (refusal-replied (judge-refused s t f y x e)))
       (λ m a e. rw e (either (λ (r : Result). Replied t (proto s) (r .reply)) _ _ _ (λ _. inl refl) (λ _. inr (served-framing m a e))))
 
--- ---- how long a reply is at most, and that it is bytes
+-- ---- how long a reply is at most, that it is bytes, and on ASCII in capitals
 
 abbrev pub longest : ModbusProto → ℕ
 longest Rtu = 255
@@ -122,6 +123,10 @@ replied-bytes t p r proper (inl e) = rw e tt
 replied-bytes t p r proper (inr h) =
     rw (h .whole) (bytes-wrap p (h .tag) (h .body) (h .tagBytes) (h .bytes proper) (omega (arith, h .high)))
 
+replied-capital : (t : Tables) (r : List ℕ) → Proper t → Replied t Ascii r → All (λ c. ¬ Small c) r
+replied-capital t r proper (inl e) = rw e tt
+replied-capital t r proper (inr h) = rw (h .whole) (wrap-capital (h .tag) (h .body) (h .bytes proper))
+
 module _ (s : Setup) (t : Tables) (f : List ℕ) (y : Bytes f) where
   pub reply-length : length (drive s t f .reply) ≤ longest (proto s)
   reply-length = replied-length t (proto s) _ (replied s t f y)
@@ -131,3 +136,7 @@ module _ (s : Setup) (t : Tables) (f : List ℕ) (y : Bytes f) where
 
   pub reply-bytes : Proper t → Bytes (drive s t f .reply)
   reply-bytes proper = replied-bytes t (proto s) _ proper (replied s t f y)
+
+  -- whatever the switch and the case of the request's digits
+  pub capitals : Proper t → proto s ≡ Ascii → All (λ c. ¬ Small c) (drive s t f .reply)
+  capitals proper e = replied-capital t _ proper (subst (λ (p : ModbusProto). Replied t p (drive s t f .reply)) e (replied s t f y))

@@ -26,7 +26,7 @@ wideCells holdings = 123
 wideCells inputs = 0
 
 abbrev wideSetup : Setup
-wideSetup = record { transport = 2; unit = 1; broadcasts = 0 ∷ []; cells = wideCells; bytes = λ tab. 246; room = 260 }
+wideSetup = record { transport = 2; unit = 1; hex = 0; broadcasts = 0 ∷ []; cells = wideCells; bytes = λ tab. 246; room = 260 }
 
 -- what a case says: of a frame what comes of it; of one over those tables the outcome, code and reply, the last nine coils and the last two
 -- holdings; or of some bytes their CRC

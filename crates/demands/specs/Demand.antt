@@ -11,7 +11,7 @@ use Rattle.modbus.specs.Frame.{Framed, wrap}
 use Rattle.modbus.specs.Setup.{Setup, proto}
 use Rattle.modbus.specs.Unit.{Broadcast, Ours}
 use Rattle.modbus.specs.Decode.{IsRead}
-use Rattle.modbus.specs.Drive.{Inside, Result}
+use Rattle.modbus.specs.Drive.{Inside, spelled, Result}
 use Rattle.demands.specs.Order.{Refusal}
 
 -- a request as a master sends it: what it asks, of which unit, and the transaction number (TCP)
@@ -20,9 +20,10 @@ pub record Request : Type 0 where
   pub unit : ℕ
   pub ask : Ask
 
--- its published encoding, within document 01's frame bounds, is that whole frame; pad bits may be any, and are no part of the request
+-- its published encoding, within document 01's frame bounds, is that whole frame; pad bits may be any, and are no part of the request; under
+-- lenient (document 02, 2026-06) an ASCII frame may have either case in each digit: in capitals it is the encoding
 abbrev pub Encoded : Setup → Request → List ℕ → Type 0
-Encoded s r f = (l : List ℕ) × Encodes (r .ask) l × Framed (proto s) (r .tag) (r .unit ∷ l) f
+Encoded s r f = (l : List ℕ) × Encodes (r .ask) l × Framed (proto s) (r .tag) (r .unit ∷ l) (spelled s f)
 
 -- addressed to a broadcast number if it is a write, or else to our unit number where that is not a broadcast number
 abbrev pub Addressed : Setup → Request → Type 0

@@ -1,5 +1,6 @@
 -- Document 01's order of refusals, as conditions of the frame and the setup: each outcome from 2 to 10 with its code and its reply, exactly when
--- it is given. A condition speaks of the published shapes, lengths and encodings, never of how the driver finds out.
+-- it is given. A condition speaks of the published shapes, lengths and encodings, never of how the driver finds out. Under lenient they are those of
+-- the frame in capitals.
 -- Assumes nothing.
 use mathlib.Core.Logic.{_⊎_, _≢_}
 use mathlib.Core.Path.{_≡_}
@@ -12,7 +13,7 @@ use Rattle.modbus.specs.Frame.{line, wrap, Framed}
 use Rattle.modbus.specs.Setup.{Setup, proto, Valid, Roomy}
 use Rattle.modbus.specs.Unit.{Broadcast, Ours}
 use Rattle.modbus.specs.Decode.{Message, unitOf, numberOf, IsRead, Lengthy}
-use Rattle.modbus.specs.Drive.{Inside}
+use Rattle.modbus.specs.Drive.{Inside, spelled}
 use Rattle.modbus.specs.declared.ModbusProto.{ModbusProto}
 use Rattle.modbus.specs.declared.ModbusProto.the-variants.{Rtu, Ascii, TcpUdp}
 
@@ -26,7 +27,7 @@ Shaped TcpUdp f = (8 ≤ length f) × (length f ≤ 260) × (getD f 2 0 ≡ 0) �
 pub record Sent (s : Setup) (f : List ℕ) (m : Message) : Type 0 where
   pub valid : Valid s
   pub roomy : Roomy s
-  pub framed : Framed (proto s) (m .tag) (m .body) f
+  pub framed : Framed (proto s) (m .tag) (m .body) (spelled s f)
 
 -- it is for us or for all, and its function has this number
 pub record Known (s : Setup) (f : List ℕ) (m : Message) (fn : Fn) : Type 0 where
@@ -49,8 +50,8 @@ pub data Coded (s : Setup) (m : Message) : ℕ → ℕ → List ℕ → Type 0 w
 pub data Refusal (s : Setup) (f : List ℕ) : ℕ → ℕ → List ℕ → Type 0 where
   bad-setup : ¬ Valid s → Refusal s f 10 0 []
   no-room : Valid s → ¬ Roomy s → Refusal s f 9 0 []
-  frame-broken : Valid s → Roomy s → ¬ Shaped (proto s) f → Refusal s f 5 0 []
-  frame-check : Valid s → Roomy s → Shaped (proto s) f → ((tag body : List ℕ) → ¬ Framed (proto s) tag body f) → Refusal s f 6 0 []
+  frame-broken : Valid s → Roomy s → ¬ Shaped (proto s) (spelled s f) → Refusal s f 5 0 []
+  frame-check : Valid s → Roomy s → Shaped (proto s) (spelled s f) → ((tag body : List ℕ) → ¬ Framed (proto s) tag body (spelled s f)) → Refusal s f 6 0 []
   foreign : (m : Message) → Sent s f m → ¬ Broadcast s (unitOf m) → ¬ Ours s (unitOf m) → Refusal s f 4 0 []
   bad-function : (m : Message) → Sent s f m → Broadcast s (unitOf m) ⊎ Ours s (unitOf m) → 128 ≤ numberOf m → Refusal s f 8 0 []
   no-function : (m : Message) → Sent s f m → Broadcast s (unitOf m) ⊎ Ours s (unitOf m) → numberOf m ≤ 127

@@ -4,7 +4,7 @@ use mathlib.Core.List.{List, [], _∷_, _++_}
 use Prim.Native.Nat.{ℕ}
 use lib.ListN.{replicate}
 use Rattle.tables.specs.Lent.{lentOf}
-use Rattle.demands.specs.Station.{Station, bench, changing}
+use Rattle.demands.specs.Station.{Station, bench, benchUnder, changing, saying}
 use Rattle.demands.specs.Cases.{Case, frame, tcp, wide, writing}
 
 -- 2026-01: TCP frames have 8 to 260 bytes, with a length field of 2 to 254
@@ -39,6 +39,7 @@ abbrev twelve : Station
 twelve =
     record {
       unit = 1;
+      hex = 0;
       list = 0 ∷ [];
       lent = lentOf (0x00 ∷ 0x00 ∷ []) 16 [] 0 (0x00 ∷ 0x12 ∷ 0x03 ∷ 0x04 ∷ 0x00 ∷ 0x00 ∷ 0xFF ∷ 0xFF ∷ []) 4 [] 0;
     }
@@ -100,5 +101,69 @@ flagsAndSetpoints =
     (0x00 ∷ 0x00 ∷ []) (0x01 ∷ 0x02 ∷ 0xAA ∷ 0xAA ∷ 0xBB ∷ 0xBB ∷ 0xFF ∷ 0xFF ∷ []))
     ∷ []
 
+-- 2026-06: digits a-f under a switch, 0 strict, 1 lenient; a frame on a transport with its outcome and its reply, where nothing changes
+abbrev under : ℕ → ℕ → List ℕ → ℕ → List ℕ → Case
+under h n f o r = frame (saying (benchUnder h (0x00 ∷ 0x00 ∷ [])) n f o 0 r)
+
+-- `:01060002`, four digits and two, with CR LF
+abbrev setting : ℕ → ℕ → ℕ → ℕ → ℕ → ℕ → List ℕ
+setting a b c d x y = 58 ∷ 48 ∷ 49 ∷ 48 ∷ 54 ∷ 48 ∷ 48 ∷ 48 ∷ 50 ∷ a ∷ b ∷ c ∷ d ∷ x ∷ y ∷ 13 ∷ 10 ∷ []
+
+-- `:010300000002` and two digits
+abbrev getting : ℕ → ℕ → List ℕ
+getting x y = 58 ∷ 48 ∷ 49 ∷ 48 ∷ 51 ∷ 48 ∷ 48 ∷ 48 ∷ 48 ∷ 48 ∷ 48 ∷ 48 ∷ 50 ∷ x ∷ y ∷ 13 ∷ 10 ∷ []
+
+-- `:01030401020304EE`
+abbrev got : List ℕ
+got = 58 ∷ 48 ∷ 49 ∷ 48 ∷ 51 ∷ 48 ∷ 52 ∷ 48 ∷ 49 ∷ 48 ∷ 50 ∷ 48 ∷ 51 ∷ 48 ∷ 52 ∷ 69 ∷ 69 ∷ 13 ∷ 10 ∷ []
+
+-- holding 2 is ABCD afterwards, and the reply has capitals
+abbrev set : ℕ → List ℕ → Case
+set h f =
+    frame (changing (benchUnder h (0x00 ∷ 0x00 ∷ [])) 1 f 0 0 (setting 65 66 67 68 55 70)
+    (0x00 ∷ 0x00 ∷ []) (0x01 ∷ 0x02 ∷ 0x03 ∷ 0x04 ∷ 0xAB ∷ 0xCD ∷ 0xFF ∷ 0xFF ∷ []))
+
+-- document 01's case a
+abbrev caseA : List ℕ
+caseA = 0x00 ∷ 0x07 ∷ 0x00 ∷ 0x00 ∷ 0x00 ∷ 0x06 ∷ 0x01 ∷ 0x03 ∷ 0x00 ∷ 0x00 ∷ 0x00 ∷ 0x02 ∷ []
+
+abbrev answerA : List ℕ
+answerA = 0x00 ∷ 0x07 ∷ 0x00 ∷ 0x00 ∷ 0x00 ∷ 0x07 ∷ 0x01 ∷ 0x03 ∷ 0x04 ∷ 0x01 ∷ 0x02 ∷ 0x03 ∷ 0x04 ∷ []
+
+abbrev pub oldTester : List Case
+oldTester =
+    -- `fa`, `Fa` and `FA`
+    under 0 1 (getting 102 97) 5 []
+    ∷ under 1 1 (getting 102 97) 0 got
+    ∷ under 2 1 (getting 102 97) 10 []
+    ∷ under 0 1 (getting 70 97) 5 []
+    ∷ under 1 1 (getting 70 97) 0 got
+    ∷ under 2 1 (getting 70 97) 10 []
+    ∷ under 0 1 (getting 70 65) 0 got
+    ∷ under 1 1 (getting 70 65) 0 got
+    ∷ under 2 1 (getting 70 65) 10 []
+    -- `abCD7f`, `abcd7F` and `ABCD7F`
+    ∷ under 0 1 (setting 97 98 67 68 55 102) 5 []
+    ∷ set 1 (setting 97 98 67 68 55 102)
+    ∷ under 2 1 (setting 97 98 67 68 55 102) 10 []
+    ∷ under 0 1 (setting 97 98 99 100 55 70) 5 []
+    ∷ set 1 (setting 97 98 99 100 55 70)
+    ∷ under 2 1 (setting 97 98 99 100 55 70) 10 []
+    ∷ set 0 (setting 65 66 67 68 55 70)
+    ∷ set 1 (setting 65 66 67 68 55 70)
+    -- `abgd7F`: g is no digit
+    ∷ under 0 1 (setting 97 98 103 100 55 70) 5 []
+    ∷ under 1 1 (setting 97 98 103 100 55 70) 5 []
+    ∷ under 2 1 (setting 97 98 103 100 55 70) 10 []
+    -- `fb`: another LRC
+    ∷ under 0 1 (getting 102 98) 5 []
+    ∷ under 1 1 (getting 102 98) 6 []
+    ∷ under 2 1 (getting 102 98) 10 []
+    -- TCP frames are no text
+    ∷ under 0 2 caseA 0 answerA
+    ∷ under 1 2 caseA 0 answerA
+    ∷ under 2 2 caseA 10 []
+    ∷ []
+
 abbrev pub requested : List Case
-requested = longWrites ++ flagsAndSetpoints
+requested = longWrites ++ flagsAndSetpoints ++ oldTester

@@ -1,4 +1,4 @@
--- A server as the cases have it: its unit number, its list of broadcast numbers and the four tables in lent bytes; and an exchange with it: a frame
+-- A server as the cases have it: its unit number, its switch, its list of broadcast numbers and the four tables in lent bytes; and an exchange with it: a frame
 -- on a transport, and what comes of it in the reply buffer and the lent bytes. The tables are afresh each time, and there is room for every reply.
 -- Assumes nothing.
 use mathlib.Core.List.{List, [], _∷_}
@@ -10,6 +10,7 @@ use Rattle.driver.specs.Driven.{Leaves, driven}
 
 pub record Station : Type 0 where
   pub unit : ℕ
+  pub hex : ℕ
   pub list : List ℕ
   pub lent : Lent
 
@@ -18,24 +19,30 @@ setupAt s transport =
     record {
       transport = transport;
       unit = s .unit;
+      hex = s .hex;
       broadcasts = s .list;
       cells = cellsOf (s .lent);
       bytes = bytesOf (s .lent);
       room = 511;
     }
 
--- document 01's: unit 1, list [0]; 16 coils in these bytes; holdings 0102 0304 0000 FFFF; no discretes and no inputs
-abbrev pub bench : List ℕ → Station
-bench c =
+-- document 01's: unit 1, list [0]; 16 coils in these bytes; holdings 0102 0304 0000 FFFF; no discretes and no inputs; under a switch
+abbrev pub benchUnder : ℕ → List ℕ → Station
+benchUnder h c =
     record {
       unit = 1;
+      hex = h;
       list = 0 ∷ [];
       lent = lentOf c 16 [] 0 (0x01 ∷ 0x02 ∷ 0x03 ∷ 0x04 ∷ 0x00 ∷ 0x00 ∷ 0xFF ∷ 0xFF ∷ []) 4 [] 0;
     }
 
+-- the same, strict
+abbrev pub bench : List ℕ → Station
+bench c = benchUnder 0 c
+
 -- the same, with our own number in the list
 abbrev pub listed : Station
-listed = record { unit = 1; list = 0 ∷ 1 ∷ []; lent = bench (0x00 ∷ 0x00 ∷ []) .lent }
+listed = record { unit = 1; hex = 0; list = 0 ∷ 1 ∷ []; lent = bench (0x00 ∷ 0x00 ∷ []) .lent }
 
 -- unit 17, list [0, 247]; four tables of different numbers of cells and contents, all with spare bits or bytes: 19 coils, 21 discretes, 3
 -- holdings, 2 inputs
@@ -43,6 +50,7 @@ abbrev pub odd : Station
 odd =
     record {
       unit = 17;
+      hex = 0;
       list = 0 ∷ 247 ∷ [];
       lent =
           lentOf

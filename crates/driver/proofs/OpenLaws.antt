@@ -49,14 +49,15 @@ part-same start n k s s' e f = let z : (start + n) - start ≡ n = omega arith i
 -- the setup that the definitions speak of
 module _ (n : Numbers) (list c d h i reply : List ℕ) where
   pub good-valid : Good n (length c) (length d) (length h) (length i) → Valid (setupOf n list (lentIn n c d h i) reply)
-  good-valid (t, f, l) = (t, ((f .0, l .0), ((f .1, l .1), ((f .2, l .2), (f .3, l .3)))))
+  good-valid (t, x, f, l) = (t, (x, ((f .0, l .0), ((f .1, l .1), ((f .2, l .2), (f .3, l .3))))))
 
   pub valid-good : Valid (setupOf n list (lentIn n c d h i) reply) → Good n (length c) (length d) (length h) (length i)
   valid-good v =
-      (v .0, (v .1 .0 .0, v .1 .1 .0 .0, v .1 .1 .1 .0 .0, v .1 .1 .1 .1 .0), (v .1 .0 .1, v .1 .1 .0 .1, v .1 .1 .1 .0 .1, v .1 .1 .1 .1 .1))
+      let t = v .1 .1 in
+      (v .0, v .1 .0, (t .0 .0, t .1 .0 .0, t .1 .1 .0 .0, t .1 .1 .1 .0), (t .0 .1, t .1 .0 .1, t .1 .1 .0 .1, t .1 .1 .1 .1))
 
   pub valid-sized : Valid (setupOf n list (lentIn n c d h i) reply) → Sized (lentIn n c d h i)
-  valid-sized v coils = v .1 .0
-  valid-sized v discretes = v .1 .1 .0
-  valid-sized v holdings = v .1 .1 .1 .0
-  valid-sized v inputs = v .1 .1 .1 .1
+  valid-sized v coils = v .1 .1 .0
+  valid-sized v discretes = v .1 .1 .1 .0
+  valid-sized v holdings = v .1 .1 .1 .1 .0
+  valid-sized v inputs = v .1 .1 .1 .1 .1

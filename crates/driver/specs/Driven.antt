@@ -22,7 +22,15 @@ lentIn n c d h i = lentOf c (n .«coil_cells») d (n .«discrete_cells») h (n .
 -- the setup: its numbers, the list of broadcast numbers, the lent tables and the room for the reply
 abbrev pub setupOf : Numbers → List ℕ → Lent → List ℕ → Setup
 setupOf n list l reply =
-    record { transport = n .transport; unit = n .unit; broadcasts = list; cells = cellsOf l; bytes = bytesOf l; room = length reply }
+    record {
+      transport = n .transport;
+      unit = n .unit;
+      hex = n .hex;
+      broadcasts = list;
+      cells = cellsOf l;
+      bytes = bytesOf l;
+      room = length reply;
+    }
 
 -- a table's bytes after a request: the cells that it writes there take its values, as the table keeps them
 abbrev pub storedIn : Tab → List Range → List ℕ → List ℕ → List ℕ

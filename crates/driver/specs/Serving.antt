@@ -172,7 +172,7 @@ Long n c d h i =
     × (octets word (n .«input_cells») ≤ i)
 
 abbrev pub Good : Numbers → ℕ → ℕ → ℕ → ℕ → Type 0
-Good n c d h i = (n .transport ≤ 2) × Few n × Long n c d h i
+Good n c d h i = (n .transport ≤ 2) × (n .hex ≤ 1) × Few n × Long n c d h i
 
 -- a call whose frame is taken apart to this body
 abbrev pub handled : Numbers → List ℕ → List ℕ → List ℕ → Lent → List ℕ → Leaves

@@ -22,11 +22,13 @@ ghost use Rattle.modbus.specs.Setup.{roomFor};
 ghost use Rattle.driver.specs.Driven.{lentIn, leaving, called};
 ghost use Rattle.driver.specs.Serving.{Sized, resulting, handled};
 
-// The setup's numbers: the transport (0 RTU, 1 ASCII, 2 TCP), our unit number on it, and how many cells each table is said to have.
+// The setup's numbers: the transport (0 RTU, 1 ASCII, 2 TCP), our unit number on it, the switch for digits a-f of ASCII frames (0 strict, 1
+// lenient), and how many cells each table is said to have.
 #[repr(C)]
 pub struct Setup {
     pub transport: u8,
     pub unit: u8,
+    pub hex: u8,
     pub coil_cells: usize,
     pub discrete_cells: usize,
     pub holding_cells: usize,
@@ -116,7 +118,7 @@ pub fn drive(
         return result(9, 0, 0);
     }
     let mut raw = [0u8; 256];
-    let n = open(setup.transport, frame, &mut raw);
+    let n = open(setup.transport, setup.hex, frame, &mut raw);
     if n < 2 {
         return result(n as u8 + 5, 0, 0);
     }

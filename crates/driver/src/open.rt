@@ -59,6 +59,9 @@ pub(crate) fn bad_setup(
     if 2 < setup.transport {
         return true;
     }
+    if 1 < setup.hex {
+        return true;
+    }
     if many_cells(setup) {
         return true;
     }

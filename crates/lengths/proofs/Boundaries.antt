@@ -7,13 +7,14 @@ use mathlib.Core.Logic.{Dec·and, Dec·not}
 use Prim.Native.Nat.{ℕ}
 use native.Mathlib.Decide.{decLe, ℕ-discrete}
 use lib.ListN.{replicate, take}
-use Rattle.modbus.specs.Step.{_>>=_, _>>_, need, choose, _or?_}
+use Rattle.modbus.specs.Step.{Step, _>>=_, _>>_, need, choose, _or?_}
 use Rattle.modbus.specs.Paper.{told}
-use Rattle.modbus.specs.Hex.{digit, undigit, text}
+use Rattle.modbus.specs.Hex.{digit, undigit, raised, spell, spelt, text}
+use Rattle.modbus.specs.declared.ErrorKind.{ErrorKind}
 use Rattle.modbus.specs.declared.ModbusProto.{ModbusProto}
 use Rattle.modbus.specs.declared.ModbusProto.the-variants.{Rtu, Ascii, TcpUdp}
 use Rattle.ascii.specs.Reading.{onward, orRefused, second, pair, placed, decode, textParsed}
-use Rattle.lengths.specs.Guess.{requestBody, responseBody, inByte, serial, guess}
+use Rattle.lengths.specs.Guess.{requestBody, responseBody, inByte, serial, guess, guessUnder}
 
 -- what is said of a body's first bytes, as they stand on the line
 abbrev pub begun : ModbusProto → List ℕ → List ℕ
@@ -78,3 +79,34 @@ pub boundaries :
     ∷ ((23, 0), (23, 0)) ∷ [])
 unfolding Dec·and Dec·not decLe ℕ-discrete _>>=_ _>>_ need choose _or?_ digit undigit text onward orRefused second pair placed decode textParsed requestBody responseBody inByte serial guess
 boundaries = refl
+
+-- the text `:010f0000000801` and its capitals, and an RTU frame and a TCP header whose numbers would be letters in a text; under the switches 0,
+-- 1 and 2
+abbrev small : ℕ → List ℕ
+small f = 58 ∷ 48 ∷ 49 ∷ 48 ∷ f ∷ 48 ∷ 48 ∷ 48 ∷ 48 ∷ 48 ∷ 48 ∷ 48 ∷ 56 ∷ 48 ∷ 49 ∷ []
+
+abbrev under : (ℕ → Step ErrorKind ℕ) → (ℕ × ℕ) × (ℕ × ℕ) × (ℕ × ℕ)
+under g = (told (g 0), told (g 1), told (g 2))
+
+pub switches :
+    _≡_ {A = List ((ℕ × ℕ) × (ℕ × ℕ) × (ℕ × ℕ))}
+    (under (λ h. guessUnder h requestBody Ascii (small 102))
+    ∷ under (λ h. guessUnder h requestBody Ascii (small 70))
+    ∷ under (λ h. guessUnder h requestBody Ascii (small 103))
+    ∷ under (λ h. guessUnder h responseBody Ascii (58 ∷ 48 ∷ 49 ∷ 48 ∷ 51 ∷ 48 ∷ 97 ∷ []))
+    ∷ under (λ h. guessUnder h requestBody Rtu (manyOf 15 97))
+    ∷ under (λ h. guessUnder h responseBody Rtu (replyOf 3 97))
+    ∷ under (λ h. guessUnder h requestBody TcpUdp (headOf 97))
+    ∷ under (λ h. guessUnder h requestBody Rtu [])
+    ∷ [])
+    (((23, 0), (0, 21), (21, 0))
+    ∷ ((0, 21), (0, 21), (21, 0))
+    ∷ ((23, 0), (23, 0), (21, 0))
+    ∷ ((23, 0), (0, 31), (21, 0))
+    ∷ ((0, 106), (0, 106), (21, 0))
+    ∷ ((0, 102), (0, 102), (21, 0))
+    ∷ ((0, 103), (0, 103), (21, 0))
+    ∷ ((21, 0), (21, 0), (21, 0))
+    ∷ [])
+unfolding Dec·and Dec·not decLe ℕ-discrete _>>=_ _>>_ need choose _or?_ digit undigit raised spell spelt text onward orRefused second pair placed decode textParsed requestBody responseBody inByte serial guess
+switches = refl

@@ -17,13 +17,14 @@ use Rattle.modbus.specs.Frame.{wrap, tagLength, around}
 use Rattle.modbus.specs.declared.ErrorKind.{ErrorKind}
 use Rattle.modbus.specs.declared.ModbusProto.{ModbusProto}
 use Rattle.modbus.specs.declared.ModbusProto.the-variants.{Rtu, Ascii, TcpUdp}
+use Rattle.modbus.proofs.StepLaws.{pass}
 use Rattle.modbus.proofs.BytesLaws.{bytes-append}
 use Rattle.modbus.proofs.CheckLaws.{lrc-lt}
 use Rattle.modbus.proofs.CargoLaws.{length-cargo}
 use Rattle.modbus.proofs.AnswerLaws.{length-shown}
-use Rattle.modbus.proofs.FrameLaws.{length-wrap}
+use Rattle.modbus.proofs.FrameLaws.{length-wrap, wrap-spelled}
 use Rattle.ascii.proofs.RoundTrip.{round-trip}
-use Rattle.lengths.specs.Guess.{Many, Reads, requestBody, responseBody, inByte, serial, guess}
+use Rattle.lengths.specs.Guess.{Many, Reads, requestBody, responseBody, inByte, serial, guess, guessUnder}
 use Rattle.lengths.specs.PortedAsk.{PortedAsk, portedRead, portedWrite, portedWrites}
 use Rattle.lengths.proofs.GuessLaws.{request-many, request-other, response-exception, response-read, response-write, byte-fits, serial-told, tcp-told}
 
@@ -132,3 +133,8 @@ module _ (p : ModbusProto) (tag : List ℕ) (e : length tag ≡ tagLength p) (u 
       → guess responseBody p (wrap p tag (u ∷ exception fn c)) ≡ go (length (wrap p tag (u ∷ exception fn c)))
   exception-length fn c y =
       guessed _ p tag _ (exception-tells u fn c) y e (omega (arith, length-wrap p tag (u ∷ exception fn c) e, three p))
+
+-- and the same under both switches
+pub under-switch : (hex : ℕ) → hex ≤ 1 → (body : List ℕ → Step ErrorKind ℕ) (p : ModbusProto) (tag b : List ℕ) → Bytes b
+    → guessUnder hex body p (wrap p tag b) ≡ guess body p (wrap p tag b)
+under-switch hex low body p tag b y = pass _ _ _ low ∙ ap (guess body p) (wrap-spelled p hex tag b y)

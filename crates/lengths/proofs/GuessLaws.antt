@@ -17,10 +17,11 @@ use Rattle.modbus.specs.declared.ErrorKind.{ErrorKind}
 use Rattle.modbus.specs.declared.ErrorKind.the-variants.{OOB, FrameBroken}
 use Rattle.modbus.specs.declared.ModbusProto.{ModbusProto}
 use Rattle.modbus.specs.declared.ModbusProto.the-variants.{Ascii, TcpUdp}
+use Rattle.modbus.proofs.FrameLaws.{spelled-strict}
 use Rattle.modbus.proofs.PaperLaws.{told-same}
 use Rattle.modbus.proofs.StepLaws.{pass, fail, follow, halt, pick-yes, pick-no, picked, needed}
 use Rattle.ascii.specs.Reading.{Ending, finished, refused, Decoded, counted, textParsed, parsedInto}
-use Rattle.lengths.specs.Guess.{Many, Reads, Writes, requestBody, responseBody, inByte, serial, guess}
+use Rattle.lengths.specs.Guess.{Many, Reads, Writes, requestBody, responseBody, inByte, serial, guess, guessUnder}
 use Rattle.lengths.specs.Side.{bodyOf}
 use Rattle.lengths.specs.declared.Side.{Side}
 use Rattle.lengths.specs.declared.Side.the-variants.{Request, Response}
@@ -172,14 +173,20 @@ module _ (body : List ℕ → Step ErrorKind ℕ) (f : List ℕ) where
   unfolding guess
   tcp-told h e = pass _ _ _ h ∙ pass _ _ _ e
 
-  module _ (out : List ℕ) where
-    pub ascii-told : (n : ℕ) → ((0, n), out) ≡ parsedInto f (length f) (replicate 256 0) 0 → n ≤ 256
+  -- a text as it is, or as a switch has it read, which is as long
+  module _ (m : ℕ) (same : length f ≡ m) (out : List ℕ) where
+    pub ascii-told : (n : ℕ) → ((0, n), out) ≡ parsedInto f m (replicate 256 0) 0 → n ≤ 256
         → guess body Ascii f ≡ serial body Ascii (take n out)
     unfolding guess
     ascii-told n e h =
-        let r = parsed-front f (replicate 256 0) out (length f) n e h in
-        follow _ _ (r .0) ∙ ap (serial body Ascii) (sym (r .1))
+        let r = parsed-front f (replicate 256 0) out m n e h in
+        rw same (follow _ _ (r .0) ∙ ap (serial body Ascii) (sym (r .1)))
 
-    pub ascii-halt : (k : ErrorKind) → ((number k, 0), out) ≡ parsedInto f (length f) (replicate 256 0) 0 → guess body Ascii f ≡ stop k
+    pub ascii-halt : (k : ErrorKind) → ((number k, 0), out) ≡ parsedInto f m (replicate 256 0) 0 → guess body Ascii f ≡ stop k
     unfolding guess
-    ascii-halt k e = halt _ _ (parsed-refused f (replicate 256 0) out (length f) k e)
+    ascii-halt k e = rw same (halt _ _ (parsed-refused f (replicate 256 0) out m k e))
+
+-- ---- strict is the crate's guess, which knows no switch
+
+pub strict : (body : List ℕ → Step ErrorKind ℕ) (p : ModbusProto) (f : List ℕ) → guessUnder 0 body p f ≡ guess body p f
+strict body p f = pass _ _ _ (omega arith) ∙ ap (guess body p) (spelled-strict p f)

@@ -10,6 +10,7 @@ use lib.ListN.{length, getD}
 use Rattle.modbus.specs.Step.{Step, stop, go, _>>=_, _>>_, need, choose, _≤?_, _≟_, _and?_, _or?_}
 use Rattle.modbus.specs.Bytes.{wordAt}
 use Rattle.modbus.specs.Frame.{around}
+use Rattle.modbus.specs.Decode.{spelledIn}
 use Rattle.modbus.specs.declared.ErrorKind.{ErrorKind}
 use Rattle.modbus.specs.declared.ErrorKind.the-variants.{OOB, FrameBroken}
 use Rattle.modbus.specs.declared.ModbusProto.{ModbusProto}
@@ -70,3 +71,7 @@ guess body TcpUdp f = do
   need (6 ≤? length f) OOB
   need (wordAt f 2 ≟ 0) FrameBroken
   inByte (around TcpUdp (wordAt f 4))
+
+-- under a switch (document 02, 2026-06), 0 strict or 1 lenient: another is OOB before all else
+abbrev pub guessUnder : ℕ → (List ℕ → Step ErrorKind ℕ) → ModbusProto → List ℕ → Step ErrorKind ℕ
+guessUnder hex body proto f = need (hex ≤? 1) OOB >> guess body proto (spelledIn proto hex f)

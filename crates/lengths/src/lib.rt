@@ -1,5 +1,5 @@
 // How long a frame will be, guessed from its first bytes.
-use ascii::parse_ascii_frame;
+use ascii::parse_text;
 use modbus::ByteAnswer;
 use modbus::ErrorKind;
 use modbus::ModbusProto;
@@ -11,10 +11,11 @@ ghost use Prim.Native.Nat.{ℕ, _≤_};
 ghost use lib.ListN.{length, getD, take};
 ghost use Rattle.modbus.specs.Step.{Step};
 ghost use Rattle.modbus.specs.Paper.{told, bytePaper, sizePaper};
+ghost use Rattle.modbus.specs.Hex.{spelt};
 ghost use Rattle.modbus.specs.Frame.{around};
 ghost use Rattle.modbus.specs.declared.ErrorKind.{ErrorKind};
 ghost use Rattle.modbus.specs.declared.ModbusProto.the-variants.{Ascii, TcpUdp};
-ghost use Rattle.lengths.specs.Guess.{Many, guess, requestBody, responseBody, inByte, serial};
+ghost use Rattle.lengths.specs.Guess.{Many, guess, guessUnder, requestBody, responseBody, inByte, serial};
 ghost use Rattle.lengths.specs.Side.{bodyOf};
 
 // What a frame is: requests and responses differ only in how the first bytes tell the length of the body.
@@ -127,38 +128,42 @@ fn tcp_len(frame: &[u8]) -> ByteAnswer
     frame_len(word(frame, 4) as usize, ModbusProto::TcpUdp)
 }
 
-// The guess from a line's text.
-fn ascii_len(side: Side, text: &[u8]) -> ByteAnswer
-    ensures { λ r. ⌜ bytePaper r ≡ told (guess (bodyOf side) Ascii (now (text .entry))) ⌝ }
+// The guess from a line's text. Digits a-f are read where `hex` is not 0.
+fn ascii_len(side: Side, text: &[u8], hex: u8) -> ByteAnswer
+    ensures { λ r. ⌜ bytePaper r ≡ told (guess (bodyOf side) Ascii (spelt hex (now (text .entry)))) ⌝ }
 {
     let mut buf = [0u8; 256];
-    let parsed = parse_ascii_frame(text, text.len(), &mut buf, 0);
+    let parsed = parse_text(text, text.len(), &mut buf, 0, hex);
     match parsed {
         ByteAnswer::Value(n) => serial_len(side, &buf, n as usize, ModbusProto::Ascii),
         ByteAnswer::Refused(k) => ByteAnswer::Refused(k),
     }
 }
 
-fn guess_frame_len(side: Side, frame: &[u8], proto: ModbusProto) -> ByteAnswer
-    ensures { λ r. ⌜ bytePaper r ≡ told (guess (bodyOf side) proto (now (frame .entry))) ⌝ }
+// The guess under a switch: 0 strict, 1 lenient.
+fn guess_frame_len(side: Side, frame: &[u8], proto: ModbusProto, hex: u8) -> ByteAnswer
+    ensures { λ r. ⌜ bytePaper r ≡ told (guessUnder hex (bodyOf side) proto (now (frame .entry))) ⌝ }
 {
+    if 1 < hex {
+        return ByteAnswer::Refused(ErrorKind::OOB);
+    }
     match proto {
         ModbusProto::Rtu => serial_len(side, frame, frame.len(), ModbusProto::Rtu),
-        ModbusProto::Ascii => ascii_len(side, frame),
+        ModbusProto::Ascii => ascii_len(side, frame, hex),
         ModbusProto::TcpUdp => tcp_len(frame),
     }
 }
 
 // How long the request is that these bytes begin.
-pub fn guess_request_frame_len(frame: &[u8], proto: ModbusProto) -> ByteAnswer
-    ensures { λ r. ⌜ bytePaper r ≡ told (guess requestBody proto (now (frame .entry))) ⌝ }
+pub fn guess_request_frame_len(frame: &[u8], proto: ModbusProto, hex: u8) -> ByteAnswer
+    ensures { λ r. ⌜ bytePaper r ≡ told (guessUnder hex requestBody proto (now (frame .entry))) ⌝ }
 {
-    guess_frame_len(Side::Request, frame, proto)
+    guess_frame_len(Side::Request, frame, proto, hex)
 }
 
 // How long the response is that these bytes begin.
-pub fn guess_response_frame_len(buf: &[u8], proto: ModbusProto) -> ByteAnswer
-    ensures { λ r. ⌜ bytePaper r ≡ told (guess responseBody proto (now (buf .entry))) ⌝ }
+pub fn guess_response_frame_len(buf: &[u8], proto: ModbusProto, hex: u8) -> ByteAnswer
+    ensures { λ r. ⌜ bytePaper r ≡ told (guessUnder hex responseBody proto (now (buf .entry))) ⌝ }
 {
-    guess_frame_len(Side::Response, buf, proto)
+    guess_frame_len(Side::Response, buf, proto, hex)
 }

@@ -1,14 +1,16 @@
--- The numbers that every answer is told by: document 01's kinds, the transports with what lies above them, and the functions that are
--- ported. Each is written out here once more, by computation over the whole list.
+-- The numbers that every answer is told by: document 01's kinds, the transports with what lies above them, the functions that are
+-- ported, and the digits by their kinds. Each is written out here once more, by computation over the whole list.
 -- Assumes nothing.
 use mathlib.Core.Path.{_≡_, refl}
 use mathlib.Core.Bool.{true, false}
 use mathlib.Core.List.{List, [], _∷_, map}
 use Prim.Native.Nat.{ℕ}
+use mathlib.Core.Logic.{Dec·and}
 use native.Mathlib.Decide.{decLe}
 use Rattle.modbus.specs.Step.{choose}
 use Rattle.modbus.specs.Ported.{codeOf, allPorted}
-use Rattle.modbus.specs.Paper.{number, transport, bytePaper, sizePaper, wordPaper, bitPaper, donePaper, protoPaper, protoAsked}
+use Rattle.modbus.specs.Paper.{number, transport, toldKind, bytePaper, sizePaper, wordPaper, bitPaper, donePaper, protoPaper, protoAsked}
+use Rattle.modbus.specs.Hex.{kinded}
 use Rattle.modbus.specs.declared.ErrorKind.the-variants.{OOB, OOBContext, FrameBroken, FrameCRCError, IllegalDataValue, ReadCallOnWriteFrame, WriteCallOnReadFrame}
 use Rattle.modbus.specs.declared.ModbusProto.the-variants.{Rtu, Ascii, TcpUdp}
 use Rattle.modbus.specs.declared.ByteAnswer.the-variants as byte
@@ -44,6 +46,15 @@ pub asked :
     ((0, 0) ∷ (0, 1) ∷ (0, 2) ∷ (10, 0) ∷ (10, 0) ∷ [])
 unfolding decLe choose
 asked = refl
+
+-- what a character stands for and its kind, on both sides of each range
+pub digits :
+    _≡_ {A = List (ℕ × ℕ × ℕ)}
+    (map (λ c. toldKind (kinded c)) (0 ∷ 47 ∷ 48 ∷ 57 ∷ 58 ∷ 64 ∷ 65 ∷ 70 ∷ 71 ∷ 96 ∷ 97 ∷ 102 ∷ 103 ∷ 255 ∷ []))
+    ((23, 0, 0) ∷ (23, 0, 0) ∷ (0, 0, 0) ∷ (0, 9, 0) ∷ (23, 0, 0) ∷ (23, 0, 0) ∷ (0, 10, 1) ∷ (0, 15, 1) ∷ (23, 0, 0)
+    ∷ (23, 0, 0) ∷ (0, 10, 2) ∷ (0, 15, 2) ∷ (23, 0, 0) ∷ (23, 0, 0) ∷ [])
+unfolding Dec·and decLe choose kinded
+digits = refl
 
 pub functions : map codeOf allPorted ≡ 1 ∷ 2 ∷ 3 ∷ 4 ∷ 5 ∷ 6 ∷ 15 ∷ 16 ∷ []
 functions = refl

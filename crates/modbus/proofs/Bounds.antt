@@ -7,7 +7,7 @@ use native.Mathlib.Decide.{decLe, ℕ-discrete}
 use Rattle.modbus.specs.Step.{_>>=_, _>>_, need, choose, _or?_, same?}
 use Rattle.modbus.specs.Bytes.{twos, pack}
 use Rattle.modbus.specs.Check.{shift, shifts, crcByte, crcFrom, crc, sum, lrc}
-use Rattle.modbus.specs.Hex.{digit, undigit, text, untext}
+use Rattle.modbus.specs.Hex.{digit, undigit, raised, spell, spelt, text, untext}
 use Rattle.modbus.specs.Table.{part, hits?}
 use Rattle.modbus.specs.Request.{masked}
 use Rattle.modbus.specs.Storage.{coilAt, registerAt}
@@ -19,7 +19,7 @@ use Rattle.modbus.specs.Bounds.{measured, bounds}
 
 -- what computing a call of the driver opens
 unfoldable pub computing : Unit {0}
-unfolding _>>=_ _>>_ need choose _or?_ same? Dec·and Dec·not decLe ℕ-discrete twos pack shift shifts crcByte crcFrom crc sum lrc digit undigit text untext part hits? masked coilAt registerAt valid? listed? broadcast? ours? orBroken unwrap isRead? lengthy? valued? quietly find allWithin? judge settle drive
+unfolding _>>=_ _>>_ need choose _or?_ same? Dec·and Dec·not decLe ℕ-discrete twos pack shift shifts crcByte crcFrom crc sum lrc digit undigit raised spell spelt text untext part hits? masked coilAt registerAt valid? listed? broadcast? ours? orBroken unwrap isRead? lengthy? valued? quietly find allWithin? judge settle drive
 computing = tt
 
 pub all-bounds : map measured bounds ≡ bounds

@@ -10,18 +10,18 @@ use native.Mathlib.Nat.{div-add-mod'}
 use lib.ListN.{length, take, drop, getD, length-append, take-append-drop, length-take, length-drop}
 use lib.Seq.{take-at, drop-at, getD-take}
 use Rattle.modbus.specs.Step.{Step, stop, go, _>>_, need, _≤?_, _≟_, _and?_, same?}
-use Rattle.modbus.specs.Bytes.{Bytes, two, wordAt}
+use Rattle.modbus.specs.Bytes.{All, Bytes, two, wordAt}
 use Rattle.modbus.specs.Check.{lrc}
 use Rattle.modbus.specs.Hex.{text, untext}
 use Rattle.modbus.specs.Frame.{line, wrap, tagLength, around, least, most, Framed}
-use Rattle.modbus.specs.Decode.{Message, frameBroken, frameCheck, orBroken, crcBytes, unwrap}
+use Rattle.modbus.specs.Decode.{Message, frameBroken, frameCheck, orBroken, crcBytes, unwrap, spelledIn}
 use Rattle.modbus.specs.declared.ErrorKind.{ErrorKind}
 use Rattle.modbus.specs.declared.ModbusProto.{ModbusProto}
 use Rattle.modbus.specs.declared.ModbusProto.the-variants.{Rtu, Ascii, TcpUdp}
 use Rattle.modbus.proofs.StepLaws.{pass, fail, follow, halt, needed}
-use Rattle.modbus.proofs.BytesLaws.{all-take, all-drop, bytes-append, bytes-front, bytes-two}
+use Rattle.modbus.proofs.BytesLaws.{all-append, all-take, all-drop, bytes-append, bytes-front, bytes-two}
 use Rattle.modbus.proofs.CheckLaws.{crc-lt, lrc-lt}
-use Rattle.modbus.proofs.HexLaws.{length-text, bytes-text, untext-text, text-untext}
+use Rattle.modbus.proofs.HexLaws.{Small, length-text, text-capital, bytes-text, untext-text, text-untext, spelt-strict, spelt-same, bytes-spelt}
 use Rattle.modbus.proofs.Views.{headed, Six, six, six?}
 
 -- a list that ends in m, cut before m
@@ -215,3 +215,36 @@ bytes-tag Ascii [] body f h y = tt
 bytes-tag Ascii (a ∷ t) body f h y = absurd (omega (arith, h .tagged))
 bytes-tag TcpUdp tag body f h y =
     bytes-front tag (0 ∷ 0 ∷ two (length body)) (bytes-front (tag ++ (0 ∷ 0 ∷ two (length body))) body (rw (h .whole) at y))
+
+-- ---- a frame as the switch has it read
+
+-- strict, every frame is itself
+pub spelled-strict : (p : ModbusProto) (f : List ℕ) → spelledIn p 0 f ≡ f
+spelled-strict Rtu f = refl
+spelled-strict Ascii f = spelt-strict f
+spelled-strict TcpUdp f = refl
+
+pub bytes-spelled : (p : ModbusProto) (h : ℕ) (f : List ℕ) → Bytes f → Bytes (spelledIn p h f)
+bytes-spelled Rtu h f y = y
+bytes-spelled Ascii h f y = bytes-spelt h f y
+bytes-spelled TcpUdp h f y = y
+
+-- a line of bytes is in capitals, and so is an ASCII frame around bytes
+pub line-capital : (l : List ℕ) → Bytes l → All (λ c. ¬ Small c) (line l)
+line-capital l y = (
+  λ q. omega (arith, q),
+  all-append (λ c. ¬ Small c) (text l) (13 ∷ 10 ∷ []) (text-capital l y)
+      (λ q. omega (arith, q), (λ q. omega (arith, q), tt)),
+)
+
+pub wrap-capital : (tag body : List ℕ) → Bytes body → All (λ c. ¬ Small c) (wrap Ascii tag body)
+wrap-capital tag body y = line-capital (body ++ (lrc body ∷ [])) (bytes-append body (lrc body ∷ []) y (lrc-lt body, tt))
+
+-- so under every switch the frame around bytes is itself
+pub wrap-spelled : (p : ModbusProto) (h : ℕ) (tag body : List ℕ) → Bytes body → spelledIn p h (wrap p tag body) ≡ wrap p tag body
+wrap-spelled Rtu h tag body y = refl
+wrap-spelled Ascii h tag body y = spelt-same h (wrap Ascii tag body) (wrap-capital tag body y)
+wrap-spelled TcpUdp h tag body y = refl
+
+pub framed-spelled : (p : ModbusProto) (h : ℕ) (tag body f : List ℕ) → Framed p tag body f → spelledIn p h f ≡ f
+framed-spelled p h tag body f k = ap (spelledIn p h) (k .whole) ∙ wrap-spelled p h tag body (k .bytes) ∙ sym (k .whole)

@@ -5,13 +5,15 @@ use mathlib.Core.List.{List}
 use Prim.Native.Nat.{ℕ, _≤_}
 use native.Mathlib.Omega.{arith}
 use Rattle.modbus.specs.Step.{Step, stop, go, _≤?_}
-use Rattle.modbus.specs.Paper.{number, transport, protoOf, told, toldWith, bytePaper, sizePaper, badTransport, protoAsked}
+use Rattle.modbus.specs.Paper.{number, transport, protoOf, told, toldKind, toldWith, bytePaper, hexPaper, sizePaper, badTransport, protoAsked}
 use Rattle.modbus.specs.declared.ErrorKind.{ErrorKind}
 use Rattle.modbus.specs.declared.ErrorKind.the-variants.{OOB, OOBContext, FrameBroken, FrameCRCError, IllegalDataValue, ReadCallOnWriteFrame, WriteCallOnReadFrame}
 use Rattle.modbus.specs.declared.ModbusProto.{ModbusProto}
 use Rattle.modbus.specs.declared.ModbusProto.the-variants.{Rtu, Ascii, TcpUdp}
 use Rattle.modbus.specs.declared.ByteAnswer.{ByteAnswer}
 use Rattle.modbus.specs.declared.ByteAnswer.the-variants as byte
+use Rattle.modbus.specs.declared.HexAnswer.{HexAnswer}
+use Rattle.modbus.specs.declared.HexAnswer.the-variants as hex
 use Rattle.modbus.specs.declared.SizeAnswer.{SizeAnswer}
 use Rattle.modbus.specs.declared.SizeAnswer.the-variants.{Value, Refused}
 use Rattle.modbus.proofs.StepLaws.{pick-yes, pick-no}
@@ -39,12 +41,35 @@ told-same m n e =
     ∙ ap stepOf (size-paper (answerOf m) (answerOf n) (told-answer m ∙ e ∙ sym (told-answer n)))
     ∙ step-answer n
 
+-- no refusal has the number of a call that was done
+pub number-some : (k : ErrorKind) → number k ≡ 0 → ⊥
+number-some OOB e = omega arith
+number-some OOBContext e = omega arith
+number-some FrameBroken e = omega arith
+number-some FrameCRCError e = omega arith
+number-some IllegalDataValue e = omega arith
+number-some ReadCallOnWriteFrame e = omega arith
+number-some WriteCallOnReadFrame e = omega arith
+
 -- what a definition came to, from what the code answered
 pub byte-value : (r : ByteAnswer) (m : Step ErrorKind ℕ) (v : ℕ) → bytePaper r ≡ told m → r ≡ byte.Value v → m ≡ go v
 byte-value r m v e q = told-same m (go v) (sym e ∙ ap bytePaper q)
 
 pub byte-refusal : (r : ByteAnswer) (m : Step ErrorKind ℕ) (k : ErrorKind) → bytePaper r ≡ told m → r ≡ byte.Refused k → m ≡ stop k
 byte-refusal r m k e q = told-same m (stop k) (sym e ∙ ap bytePaper q)
+
+-- the same of a digit, by the number of its kind
+pub hex-value : (r : HexAnswer) (m : Step ErrorKind (ℕ × ℕ)) (v kind : ℕ) → hexPaper r ≡ toldKind m → hexPaper r ≡ (0, v, kind)
+    → m ≡ go (v, kind)
+hex-value r (go (w, j)) v kind e q = ap (λ (t : ℕ × ℕ × ℕ). go (t .1, t .2)) (sym e ∙ q)
+hex-value r (stop k) v kind e q = absurd (number-some k (ap (λ (t : ℕ × ℕ × ℕ). t .0) (sym e ∙ q)))
+
+pub hex-refusal : (r : HexAnswer) (m : Step ErrorKind (ℕ × ℕ)) (k : ErrorKind) → hexPaper r ≡ toldKind m → r ≡ hex.Refused k → m ≡ stop k
+hex-refusal r (go (w, j)) k e q = absurd (number-some k (ap (λ (t : ℕ × ℕ × ℕ). t .0) (sym (ap hexPaper q) ∙ e)))
+hex-refusal r (stop j) k e q =
+    let p = told-same (stop j) (stop k) (ap (λ (t : ℕ × ℕ × ℕ). (t .0, 0)) (sym e ∙ ap hexPaper q)) in
+    let z : j ≡ k = cc in
+    ap stop z
 
 -- the same with what a lent buffer then holds
 pub value-with : (l m : List ℕ) (s : Step ErrorKind (ℕ × List ℕ)) (v : ℕ) → (sizePaper (Value v), m) ≡ toldWith l s
@@ -65,16 +90,6 @@ refusal-with l m (stop j) k e =
     let q = told-same (stop k) (stop j) (ap (λ (t : (ℕ × ℕ) × List ℕ). t .0) e) in
     let z : j ≡ k = cc in
     (ap stop z, ap (λ (t : (ℕ × ℕ) × List ℕ). t .1) e)
-
--- no refusal has the number of a call that was done
-pub number-some : (k : ErrorKind) → number k ≡ 0 → ⊥
-number-some OOB e = omega arith
-number-some OOBContext e = omega arith
-number-some FrameBroken e = omega arith
-number-some FrameCRCError e = omega arith
-number-some IllegalDataValue e = omega arith
-number-some ReadCallOnWriteFrame e = omega arith
-number-some WriteCallOnReadFrame e = omega arith
 
 proto-back : (p : ModbusProto) → protoOf (transport p) ≡ p
 proto-back Rtu = refl

@@ -9,7 +9,7 @@ use lib.Dec.{eqb}
 use contract.Lifetimes.{Lfts}
 use borrow.Fn.Kinds.{PK, RK, Out, Dens, resT, endedOf}
 use denote.Triple.Clauses.{Lasts, atExit}
-use Rattle.modbus.specs.Paper.{number, bytePaper, sizePaper, wordPaper, bitPaper, donePaper, protoPaper}
+use Rattle.modbus.specs.Paper.{number, bytePaper, sizePaper, wordPaper, bitPaper, donePaper, hexPaper, protoPaper}
 use Rattle.modbus.specs.declared.ErrorKind.{ErrorKind}
 use Rattle.modbus.specs.declared.ErrorKind.the-variants.{OOB, OOBContext, FrameBroken, FrameCRCError, IllegalDataValue, ReadCallOnWriteFrame, WriteCallOnReadFrame}
 use Rattle.modbus.specs.declared.ModbusProto.{ModbusProto}
@@ -25,6 +25,8 @@ use Rattle.modbus.specs.declared.BitAnswer.{BitAnswer}
 use Rattle.modbus.specs.declared.BitAnswer.the-variants as bit
 use Rattle.modbus.specs.declared.DoneAnswer.{DoneAnswer}
 use Rattle.modbus.specs.declared.DoneAnswer.the-variants as done
+use Rattle.modbus.specs.declared.HexAnswer.{HexAnswer}
+use Rattle.modbus.specs.declared.HexAnswer.the-variants as hex
 use Rattle.modbus.specs.declared.ProtoAnswer.{ProtoAnswer}
 use Rattle.modbus.specs.declared.ProtoAnswer.the-variants as proto
 use Rattle.modbus.proofs.kind_number.Kinds as kind-number-kinds
@@ -116,6 +118,19 @@ done-back : (x : DoneAnswer) → back (λ n. done.Done) done.Refused (donePaper 
 done-back done.Done = refl
 done-back (done.Refused k) = refused-back (λ (n : ℕ). done.Done) done.Refused 0 k
 
+-- a digit by its kind and value
+abbrev digitBack : ℕ × ℕ → HexAnswer
+digitBack p = cond (eqb (p .1) 0) (hex.Number (p .0)) (cond (eqb (p .1) 1) (hex.Capital (p .0)) (hex.Small (p .0)))
+
+abbrev hexBack : ℕ × ℕ × ℕ → HexAnswer
+hexBack p = back digitBack hex.Refused (p .0, (p .1, p .2))
+
+hex-back : (x : HexAnswer) → hexBack (hexPaper x) ≡ x
+hex-back (hex.Number v) = refl
+hex-back (hex.Capital v) = refl
+hex-back (hex.Small v) = refl
+hex-back (hex.Refused k) = refused-back digitBack hex.Refused (0, 0) k
+
 -- what has a way back is told apart by its numbers
 pub by-back : {A N : Type 0} (paper : A → N) (way : N → A) → ((x : A) → way (paper x) ≡ x)
     → (x y : A) → paper x ≡ paper y → x ≡ y
@@ -135,6 +150,9 @@ bit-paper = by-back bitPaper (back (λ n. bit.Value (eqb n 1)) bit.Refused) bit-
 
 pub done-paper : (x y : DoneAnswer) → donePaper x ≡ donePaper y → x ≡ y
 done-paper = by-back donePaper (back (λ n. done.Done) done.Refused) done-back
+
+pub hex-paper : (x y : HexAnswer) → hexPaper x ≡ hexPaper y → x ≡ y
+hex-paper = by-back hexPaper hexBack hex-back
 
 -- an answer without a value is told by its first number
 done-whole : (x : DoneAnswer) → donePaper x ≡ (donePaper x .0, 0)

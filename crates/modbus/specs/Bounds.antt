@@ -14,6 +14,7 @@ use Rattle.modbus.specs.Drive.{drive}
 
 pub record Bound : Type 0 where
   pub transport : ℕ
+  pub hex : ℕ
   pub cells : Sizes
   pub bytes : Sizes
   pub room : ℕ
@@ -25,12 +26,13 @@ abbrev pub zeros : Tables
 zeros tab n = 0
 
 abbrev pub bench : Bound → Setup
-bench b = record { transport = b .transport; unit = 1; broadcasts = 0 ∷ []; cells = b .cells; bytes = b .bytes; room = b .room }
+bench b = record { transport = b .transport; unit = 1; hex = b .hex; broadcasts = 0 ∷ []; cells = b .cells; bytes = b .bytes; room = b .room }
 
 abbrev pub measured : Bound → Bound
 measured b =
     record {
       transport = b .transport;
+      hex = b .hex;
       cells = b .cells;
       bytes = b .bytes;
       room = b .room;
@@ -49,9 +51,14 @@ sizes c d h i discretes = d
 sizes c d h i holdings = h
 sizes c d h i inputs = i
 
--- every table with so many cells, in slices that would hold 65,537 of them
+-- under a switch, every table with so many cells, in slices that would hold 65,537 of them
+abbrev pub under : ℕ → ℕ → ℕ → ℕ → List ℕ → ℕ → ℕ → Bound
+under h n k room f o x =
+    record { transport = n; hex = h; cells = each k; bytes = each 131074; room = room; frame = f; outcome = o; code = x }
+
+-- the same, strict
 abbrev pub sized : ℕ → ℕ → ℕ → List ℕ → ℕ → ℕ → Bound
-sized n k room f o x = record { transport = n; cells = each k; bytes = each 131074; room = room; frame = f; outcome = o; code = x }
+sized n k room f o x = under 0 n k room f o x
 
 -- a whole frame, all cells and room enough
 abbrev pub plain : ℕ → List ℕ → ℕ → ℕ → Bound
@@ -198,7 +205,7 @@ setups =
 -- a table's slice: as long as its cells need and one byte less, and 65,537 cells in a slice that would hold them; the frame reads the first
 -- cell of that table
 abbrev pub lent : Sizes → Sizes → ℕ → ℕ → Bound
-lent c b fn o = record { transport = 2; cells = c; bytes = b; room = 260; frame = sent 2 (six fn 0 1); outcome = o; code = 0 }
+lent c b fn o = record { transport = 2; hex = 0; cells = c; bytes = b; room = 260; frame = sent 2 (six fn 0 1); outcome = o; code = 0 }
 
 abbrev pub slices : List Bound
 slices =
@@ -290,13 +297,60 @@ characters =
     ∷ plain 1 (counting 65 70 50) 0 0
     ∷ plain 1 (counting 70 69 68) 0 0
     ∷ plain 1 (counting 71 69 67) 5 0
+    ∷ plain 1 (counting 96 70 51) 5 0
     ∷ plain 1 (counting 97 70 50) 5 0
     ∷ plain 1 (counting 102 69 68) 5 0
+    ∷ plain 1 (counting 103 69 67) 5 0
     ∷ plain 1 (59 ∷ 48 ∷ 49 ∷ 48 ∷ 55 ∷ 70 ∷ 56 ∷ 13 ∷ 10 ∷ []) 5 0
     ∷ plain 1 (58 ∷ 48 ∷ 49 ∷ 48 ∷ 55 ∷ 70 ∷ 56 ∷ 13 ∷ 10 ∷ []) 2 1
     ∷ plain 1 (58 ∷ 48 ∷ 49 ∷ 48 ∷ 55 ∷ 70 ∷ 56 ∷ 10 ∷ 10 ∷ []) 5 0
     ∷ plain 1 (58 ∷ 48 ∷ 49 ∷ 48 ∷ 55 ∷ 70 ∷ 56 ∷ 13 ∷ 13 ∷ []) 5 0
     ∷ plain 1 (58 ∷ 48 ∷ 49 ∷ 48 ∷ 55 ∷ 70 ∷ 56 ∷ 48 ∷ 13 ∷ 10 ∷ []) 5 0
+    ∷ []
+
+-- the same lenient: the small letters a to f are digits, in the LRC too, and their neighbours are none
+abbrev pub lenient : List ℕ → ℕ → ℕ → Bound
+lenient f o x = under 1 1 65536 511 f o x
+
+abbrev pub smallLetters : List Bound
+smallLetters =
+    lenient (counting 47 70 68) 5 0
+    ∷ lenient (counting 48 70 67) 2 3
+    ∷ lenient (counting 57 70 51) 0 0
+    ∷ lenient (counting 58 70 50) 5 0
+    ∷ lenient (counting 64 70 51) 5 0
+    ∷ lenient (counting 65 70 50) 0 0
+    ∷ lenient (counting 70 69 68) 0 0
+    ∷ lenient (counting 71 69 67) 5 0
+    ∷ lenient (counting 96 70 51) 5 0
+    ∷ lenient (counting 97 70 50) 0 0
+    ∷ lenient (counting 98 70 49) 0 0
+    ∷ lenient (counting 97 70 49) 6 0
+    ∷ lenient (counting 102 69 68) 0 0
+    ∷ lenient (counting 102 101 100) 0 0
+    ∷ lenient (counting 70 101 68) 0 0
+    ∷ lenient (counting 103 69 67) 5 0
+    ∷ lenient (58 ∷ 48 ∷ 49 ∷ 48 ∷ 55 ∷ 102 ∷ 56 ∷ 13 ∷ 10 ∷ []) 2 1
+    ∷ lenient (90 ∷ 48 ∷ 49 ∷ 48 ∷ 55 ∷ 102 ∷ 56 ∷ 13 ∷ 10 ∷ []) 5 0
+    ∷ lenient (58 ∷ 48 ∷ 49 ∷ 48 ∷ 55 ∷ 102 ∷ 56 ∷ 48 ∷ 13 ∷ 10 ∷ []) 5 0
+    ∷ []
+
+-- the switch: 0 and 1 on every transport, and BadSetup from 2 on; RTU and TCP frames are no text, and stand under both as they are
+abbrev pub switches : List Bound
+switches =
+    under 0 0 65536 260 (sent 0 (six 3 0 97)) 0 0
+    ∷ under 1 0 65536 260 (sent 0 (six 3 0 97)) 0 0
+    ∷ under 2 0 65536 260 (sent 0 (six 3 0 97)) 10 0
+    ∷ under 0 1 65536 511 (sent 1 (six 3 0 1)) 0 0
+    ∷ under 1 1 65536 511 (sent 1 (six 3 0 1)) 0 0
+    ∷ under 2 1 65536 511 (sent 1 (six 3 0 1)) 10 0
+    ∷ under 0 2 65536 260 (sent 2 (six 3 0 97)) 0 0
+    ∷ under 1 2 65536 260 (sent 2 (six 3 0 97)) 0 0
+    ∷ under 2 2 65536 260 (sent 2 (six 3 0 97)) 10 0
+    ∷ under 255 2 65536 260 (sent 2 (six 3 0 97)) 10 0
+    -- a number of cells of which a lenient reading would make another
+    ∷ under 1 0 96 260 (sent 0 (six 3 0 97)) 2 2
+    ∷ under 1 2 96 260 (sent 2 (six 3 0 97)) 2 2
     ∷ []
 
 -- the order of the faults: each row has the two that it names, and the first one decides
@@ -305,9 +359,11 @@ order =
     -- BadSetup, NoRoom
     sized 2 65537 259 (sent 2 (six 3 0 1)) 10 0
     ∷ sized 3 65536 259 (sent 2 (six 3 0 1)) 10 0
+    ∷ under 2 2 65536 259 (sent 2 (six 3 0 1)) 10 0
     -- BadSetup, FrameBroken
     ∷ sized 2 65537 260 [] 10 0
     ∷ sized 3 65536 260 [] 10 0
+    ∷ under 2 1 65536 511 [] 10 0
     -- NoRoom, FrameBroken
     ∷ sized 0 65536 259 [] 9 0
     ∷ sized 1 65536 510 [] 9 0
@@ -367,5 +423,7 @@ bounds =
     ++ functionNumbers
     ++ frameBounds
     ++ characters
+    ++ smallLetters
+    ++ switches
     ++ units
     ++ order

@@ -8,7 +8,7 @@ use lib.ListN.{length, take, drop, getD}
 use Rattle.modbus.specs.Step.{Step, stop, go, _>>=_, _>>_, need, _≤?_, _≟_, _and?_, _or?_, same?}
 use Rattle.modbus.specs.Bytes.{wordAt}
 use Rattle.modbus.specs.Check.{crc, lrc}
-use Rattle.modbus.specs.Hex.{untext}
+use Rattle.modbus.specs.Hex.{spelt, untext}
 use Rattle.modbus.specs.Table.{bit, word, kindOf}
 use Rattle.modbus.specs.Request.{Fn, reads, one, many, mask, both, Ask, read, write, writes, masks, swaps, mostRead, mostWritten, mostSwapped, octets}
 use Rattle.modbus.specs.Storage.{values}
@@ -65,6 +65,12 @@ unwrap Ascii f = do
 unwrap TcpUdp f = do
   need ((8 ≤? length f) and? (length f ≤? 260) and? (getD f 2 0 ≟ 0) and? (getD f 3 0 ≟ 0) and? (wordAt f 4 + 6 ≟ length f)) frameBroken
   go (record { tag = take 2 f; body = drop 6 f })
+
+-- a frame as the switch has it read: only ASCII frames are text
+abbrev pub spelledIn : ModbusProto → ℕ → List ℕ → List ℕ
+spelledIn Rtu hex f = f
+spelledIn Ascii hex f = spelt hex f
+spelledIn TcpUdp hex f = f
 
 -- ---- a function that is ignored on a broadcast number
 

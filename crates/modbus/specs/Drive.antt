@@ -9,7 +9,7 @@ use Rattle.modbus.specs.Request.{Fn, code, offered, Ask, reading, writin
 use Rattle.modbus.specs.Frame.{wrap}
 use Rattle.modbus.specs.Setup.{Setup, proto, valid?, roomy?, Within, within?}
 use Rattle.modbus.specs.Unit.{broadcast?, ours?}
-use Rattle.modbus.specs.Decode.{Message, unitOf, numberOf, Silent, readIgnored, foreign, wrongLength, badFunction, noRoom, badSetup, outcomeOf, unwrap, isRead?, lengthy?, valued?, asked}
+use Rattle.modbus.specs.Decode.{Message, unitOf, numberOf, Silent, readIgnored, foreign, wrongLength, badFunction, noRoom, badSetup, outcomeOf, unwrap, spelledIn, isRead?, lengthy?, valued?, asked}
 
 -- a fault is silent, or comes with a message and an exception code
 pub data Fault : Type 0 where
@@ -60,12 +60,16 @@ fromUnit s m = do
   need (not? (broadcast? s (unitOf m) and? isRead? fn)) (quiet readIgnored)
   fromFunction s m fn
 
+-- the frame as the setup's switch has it read
+abbrev pub spelled : Setup → List ℕ → List ℕ
+spelled s f = spelledIn (proto s) (s .hex) f
+
 -- from the start
 unfoldable pub judge : Setup → List ℕ → Step Fault (Message × Ask)
 judge s f = do
   need (valid? s) (quiet badSetup)
   need (roomy? s) (quiet noRoom)
-  m ← quietly (unwrap (proto s) f)
+  m ← quietly (unwrap (proto s) (spelled s f))
   fromUnit s m
 
 -- an outcome, its exception code, the reply and the tables afterwards

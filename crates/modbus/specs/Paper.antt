@@ -19,6 +19,8 @@ use Rattle.modbus.specs.declared.BitAnswer.{BitAnswer}
 use Rattle.modbus.specs.declared.BitAnswer.the-variants as bit
 use Rattle.modbus.specs.declared.DoneAnswer.{DoneAnswer}
 use Rattle.modbus.specs.declared.DoneAnswer.the-variants as done
+use Rattle.modbus.specs.declared.HexAnswer.{HexAnswer}
+use Rattle.modbus.specs.declared.HexAnswer.the-variants as hex
 use Rattle.modbus.specs.declared.ProtoAnswer.{ProtoAnswer}
 use Rattle.modbus.specs.declared.ProtoAnswer.the-variants as proto
 
@@ -72,6 +74,17 @@ bitPaper (bit.Refused k) = (number k, 0)
 abbrev pub donePaper : DoneAnswer → ℕ × ℕ
 donePaper done.Done = (0, 0)
 donePaper (done.Refused k) = (number k, 0)
+
+-- a digit has a kind beside its value: 0 a number, 1 a capital, 2 a small letter
+abbrev pub toldKind : Step ErrorKind (ℕ × ℕ) → ℕ × ℕ × ℕ
+toldKind (go (v, kind)) = (0, v, kind)
+toldKind (stop k) = (number k, 0, 0)
+
+abbrev pub hexPaper : HexAnswer → ℕ × ℕ × ℕ
+hexPaper (hex.Number v) = (0, v, 0)
+hexPaper (hex.Capital v) = (0, v, 1)
+hexPaper (hex.Small v) = (0, v, 2)
+hexPaper (hex.Refused k) = (number k, 0, 0)
 
 -- BadSetup, which no ported call answers: its number is the driver's outcome
 abbrev pub badTransport : ℕ × ℕ

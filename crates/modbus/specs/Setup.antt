@@ -1,5 +1,5 @@
--- The setup (document 01, "Tables and setup"): a transport, a unit number, a list of broadcast numbers, how many cells and bytes each table
--- has, and the room for the reply.
+-- The setup (document 01, "Tables and setup"): a transport, a unit number, the switch for lower-case digits (document 02, 2026-06), a list of
+-- broadcast numbers, how many cells and bytes each table has, and the room for the reply.
 -- Assumes nothing.
 use mathlib.Core.List.{List}
 use Prim.Native.Nat.{ℕ, _+_, _≤_}
@@ -13,6 +13,7 @@ use Rattle.modbus.specs.declared.ModbusProto.the-variants.{Rtu, Ascii, T
 pub record Setup : Type 0 where
   pub transport : ℕ
   pub unit : ℕ
+  pub hex : ℕ
   pub broadcasts : List ℕ
   pub cells : Sizes
   pub bytes : Sizes
@@ -21,7 +22,7 @@ pub record Setup : Type 0 where
 abbrev pub proto : Setup → ModbusProto
 proto s = protoOf (s .transport)
 
--- ---- BadSetup: transport above 2, more than 65,536 cells, or a table slice too short for its cells
+-- ---- BadSetup: transport above 2, a switch above 1, more than 65,536 cells, or a table slice too short for its cells
 
 abbrev pub Held : Setup → Tab → Type 0
 Held s tab = (s .cells tab ≤ 65536) × (octets (kindOf tab) (s .cells tab) ≤ s .bytes tab)
@@ -30,10 +31,10 @@ abbrev pub held? : (s : Setup) (tab : Tab) → Dec (Held s tab)
 held? s tab = (s .cells tab ≤? 65536) and? (octets (kindOf tab) (s .cells tab) ≤? s .bytes tab)
 
 abbrev pub Valid : Setup → Type 0
-Valid s = (s .transport ≤ 2) × (Held s coils × (Held s discretes × (Held s holdings × Held s inputs)))
+Valid s = (s .transport ≤ 2) × ((s .hex ≤ 1) × (Held s coils × (Held s discretes × (Held s holdings × Held s inputs))))
 
 unfoldable pub valid? : (s : Setup) → Dec (Valid s)
-valid? s = (s .transport ≤? 2) and? held? s coils and? held? s discretes and? held? s holdings and? held? s inputs
+valid? s = (s .transport ≤? 2) and? (s .hex ≤? 1) and? held? s coils and? held? s discretes and? held? s holdings and? held? s inputs
 
 -- ---- NoRoom: reply buffer under 260 bytes (RTU, TCP) or 511 (ASCII)
 

@@ -50,6 +50,14 @@ pub enum DoneAnswer {
     Refused(ErrorKind),
 }
 
+// What a hexadecimal digit stands for, by the kind of its character: 0-9, A-F or a-f.
+pub enum HexAnswer {
+    Number(u8),
+    Capital(u8),
+    Small(u8),
+    Refused(ErrorKind),
+}
+
 // A transport, or document 01's BadSetup: that is none of the kinds.
 pub enum ProtoAnswer {
     Value(ModbusProto),

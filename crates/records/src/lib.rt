@@ -77,7 +77,7 @@ fn digit(record: &mut [u8], s: Reading, c: u8) -> Reading
 {
     let mut t = s;
     t.broken = true;
-    let value = checks::chr_to_hex(c);
+    let value = checks::digit_under(c, 0);
     let ByteAnswer::Value(v) = value else {
         return t;
     };

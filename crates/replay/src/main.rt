@@ -7,21 +7,21 @@ use records::Tally;
 // The bytes of a record before its input.
 const HEAD: usize = 11;
 
-// What the port answers to a guess.
+// What the port answers to a guess, strict.
 fn guess(call: u8, input: &[u8], proto: u8) -> Answer {
     let transport = modbus::proto_of(proto);
     match transport {
         ProtoAnswer::Value(p) => {
             if call == 7 {
-                return modbus::byte_answer(lengths::guess_request_frame_len(input, p));
+                return modbus::byte_answer(lengths::guess_request_frame_len(input, p, 0));
             }
-            modbus::byte_answer(lengths::guess_response_frame_len(input, p))
+            modbus::byte_answer(lengths::guess_response_frame_len(input, p, 0))
         }
         ProtoAnswer::BadSetup => Answer { value: 0, kind: 10 },
     }
 }
 
-// What the port answers to a call; the calls that are lent a buffer leave it changed.
+// What the port answers to a call, strict, as the crate reads; the calls that are lent a buffer leave it changed.
 fn answer(call: u8, small: u8, size: usize, input: &[u8], lent: &mut [u8]) -> Answer {
     match call {
         1 => Answer {
@@ -29,9 +29,9 @@ fn answer(call: u8, small: u8, size: usize, input: &[u8], lent: &mut [u8]) -> An
             kind: 0,
         },
         2 => modbus::byte_answer(checks::calc_lrc(input, small)),
-        3 => modbus::byte_answer(checks::chr_to_hex(small)),
+        3 => modbus::byte_answer(checks::digit_under(small, 0)),
         4 => modbus::byte_answer(checks::hex_to_chr(small)),
-        5 => modbus::byte_answer(ascii::parse_ascii_frame(input, size, lent, small)),
+        5 => modbus::byte_answer(ascii::parse_ascii_frame(input, size, lent, small, 0)),
         6 => modbus::size_answer(ascii::generate_ascii_frame(input, lent)),
         _ => guess(call, input, small),
     }

@@ -51,7 +51,7 @@ sizes c d h i holdings = h
 sizes c d h i inputs = i
 
 abbrev setup : ℕ → ℕ → ℕ → ℕ → Setup
-setup c d h i = record { transport = 0; unit = 0; broadcasts = []; cells = sizes c d h i; bytes = λ t. 0; room = 0 }
+setup c d h i = record { transport = 0; unit = 0; hex = 0; broadcasts = []; cells = sizes c d h i; bytes = λ t. 0; room = 0 }
 
 pub judge : Unique 1 judge-kinds.ps judge-kinds.r judge-reads.Post
 judge κs a x y u v p q =

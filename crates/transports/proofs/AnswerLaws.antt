@@ -8,14 +8,14 @@ use native.Mathlib.Omega.{arith}
 use lib.ListN.{length, take, drop, getD, length-drop}
 use lib.Seq.{length-take-le}
 use Rattle.modbus.specs.Step.{Step, stop, go, _≤?_, _and?_}
-use Rattle.modbus.specs.Hex.{untext}
+use Rattle.modbus.specs.Hex.{spelt, untext}
 use Rattle.modbus.specs.Frame.{tagOf, startOf}
-use Rattle.modbus.specs.Decode.{Message, Silent, frameBroken, frameCheck, outcomeOf, orBroken, unwrap}
+use Rattle.modbus.specs.Decode.{Message, Silent, frameBroken, frameCheck, outcomeOf, orBroken, unwrap, spelledIn}
 use Rattle.modbus.specs.declared.ErrorKind.{ErrorKind}
 use Rattle.modbus.specs.declared.ModbusProto.{ModbusProto}
 use Rattle.modbus.specs.declared.ModbusProto.the-variants.{Rtu, Ascii, TcpUdp}
 use Rattle.modbus.proofs.StepLaws.{needed, bound, tested}
-use Rattle.modbus.proofs.HexLaws.{length-text, text-untext}
+use Rattle.modbus.proofs.HexLaws.{length-text, text-untext, length-spelt}
 use Rattle.transports.specs.Opened.{opened, faultOf, source, Fronted}
 use Rattle.transports.specs.Lines.{Lined, lined?}
 use Rattle.transports.proofs.OpenedLaws.{rtu-broken, rtu-checked, headed?, tcp-broken, tcp-body}
@@ -87,6 +87,15 @@ in-source Rtu f raw n h k e = h
 in-source Ascii f raw n h k e = omega arith
 in-source TcpUdp f raw n h k e = h
 
+-- the frame g is taken apart to n bytes that stand in the source, with the tag of the frame f
+abbrev pub Opens : ModbusProto → List ℕ → List ℕ → ℕ → List ℕ → Type 0
+Opens p g f n raw =
+    (unwrap p g ≡ go (record { tag = tagOf p (getD f 0 0) (getD f 1 0); body = take n (drop (startOf p) (source p f raw)) }))
+    × (2 ≤ n)
+    × (startOf p + n ≤ length (source p f raw))
+    × (2 ≤ length f)
+    × (n ≤ 254)
+
 module _ (p : ModbusProto) (f : List ℕ) (n : ℕ) (q : n ≡ opened (unwrap p f)) where
   -- an answer below 2 tells why there is no body
   pub opened-none : n < 2 → unwrap p f ≡ stop (faultOf n)
@@ -106,12 +115,7 @@ module _ (p : ModbusProto) (f : List ℕ) (n : ℕ) (q : n ≡ opened (unwrap p 
       by (wrong e) = let k = q ∙ ap opened e in absurd (omega arith)
 
   -- any other is the length of a body that stands in the source, and tells what the frame is taken apart to
-  pub opened-body : (raw : List ℕ) → Fronted (unwrap p f) (drop (startOf p) (source p f raw)) → length raw ≡ 256 → 2 ≤ n
-      → (unwrap p f ≡ go (record { tag = tagOf p (getD f 0 0) (getD f 1 0); body = take n (drop (startOf p) (source p f raw)) }))
-      × (2 ≤ n)
-      × (startOf p + n ≤ length (source p f raw))
-      × (2 ≤ length f)
-      × (n ≤ 254)
+  opened-body : (raw : List ℕ) → Fronted (unwrap p f) (drop (startOf p) (source p f raw)) → length raw ≡ 256 → 2 ≤ n → Opens p f f n raw
   opened-body raw w g h =
       message h λ m e k.
       let s = sized p f m e in
@@ -129,6 +133,14 @@ module _ (p : ModbusProto) (f : List ℕ) (n : ℕ) (q : n ≡ opened (unwrap p 
   same-body l l′ w w′ h =
       message h λ m e k.
       ap (λ (i : ℕ). take i l) k ∙ (rw e at w) ∙ sym (rw e at w′) ∙ ap (λ (i : ℕ). take i l′) (sym k)
+
+-- the same of a frame as the switch has it read: only the text of a line is another, which is as long
+pub opened-under : (p : ModbusProto) (h : ℕ) (f : List ℕ) (n : ℕ) → n ≡ opened (unwrap p (spelledIn p h f)) → (raw : List ℕ)
+    → Fronted (unwrap p (spelledIn p h f)) (drop (startOf p) (source p f raw)) → length raw ≡ 256 → 2 ≤ n → Opens p (spelledIn p h f) f n raw
+opened-under Rtu h f n q raw w g k = opened-body Rtu f n q raw w g k
+opened-under Ascii h f n q raw w g k =
+    let b = opened-body Ascii (spelt h f) n q raw w g k in (b .0, b .1, b .2, omega (arith, b .3, length-spelt h f), b .4)
+opened-under TcpUdp h f n q raw w g k = opened-body TcpUdp f n q raw w g k
 
 -- its number is an outcome's
 pub number-fault : (n : ℕ) → n < 2 → outcomeOf (faultOf n) ≡ n + 5

@@ -5,11 +5,11 @@ use mathlib.Core.Bool.{Bool, true, false}
 use mathlib.Core.List.{List, [], _∷_}
 use Prim.Native.Nat.{ℕ, _+_, _-_, _*_, _≤_}
 use native.Mathlib.Omega.{arith}
-use lib.ListN.{length, take, drop, length-take, length-drop}
+use lib.ListN.{length, take, drop, getD, length-take, length-drop}
 use lib.Seq.{sets, sets-eq, length-sets, take-at}
 use Rattle.modbus.specs.Step.{Step, stop, go, choose, _≤?_, _≟_}
 use Rattle.modbus.specs.Paper.{told, bytePaper}
-use Rattle.modbus.specs.Hex.{untext}
+use Rattle.modbus.specs.Hex.{spell, spelt, untext}
 use Rattle.modbus.specs.Decode.{frameBroken, orBroken, unwrap}
 use Rattle.modbus.specs.declared.ErrorKind.{ErrorKind}
 use Rattle.modbus.specs.declared.ErrorKind.the-variants.{OOB}
@@ -17,11 +17,12 @@ use Rattle.modbus.specs.declared.ByteAnswer.{ByteAnswer}
 use Rattle.modbus.specs.declared.ByteAnswer.the-variants as byte
 use Rattle.modbus.specs.declared.ModbusProto.the-variants.{Ascii}
 use Rattle.modbus.proofs.StepLaws.{pass, fail, follow, halt, pick-yes, picked}
-use Rattle.modbus.proofs.HexLaws.{length-text, text-untext}
+use Rattle.modbus.proofs.HexLaws.{length-text, text-untext, length-spelt, getD-spelt, drop-spelt, spell-before, spell-back, spelt-before, spelt-back}
 use Rattle.modbus.proofs.PaperLaws.{byte-value, byte-refusal}
 use Rattle.ascii.specs.Reading.{finished, refused, Decoded, decode, textParsed, counted, parsedInto}
 use Rattle.ascii.specs.Plain.{pairValues}
 use Rattle.ascii.proofs.PlainLaws.{decode-untext, untext-values}
+use Rattle.ascii.proofs.SpeltLaws.{digits-spelt}
 use Rattle.transports.specs.Opened.{opened, Fronted}
 use Rattle.transports.specs.Checked.{checked, lrcByte}
 use Rattle.transports.specs.Lines.{Lined, lined?, ShortLine}
@@ -34,6 +35,31 @@ digits f = drop 1 (take (length f - 2) f)
 
 pub length-digits : (f : List ℕ) → Lined f → length (digits f) ≡ length f - 3
 length-digits f h = simp (length-drop, length-take) (omega arith)
+
+-- ---- a line as the switch has it read
+
+module _ (h : ℕ) (f : List ℕ) where
+  pub lined-spelt : Lined f → Lined (spelt h f)
+  lined-spelt (a, (b, (c, d))) =
+      let e = getD-spelt h f 0 ∙ ap (spell h) c ∙ spell-before h 58 (omega arith) in
+      let g = drop-spelt h f (length f - 2) ∙ ap (spelt h) d ∙ spelt-before h (13 ∷ 10 ∷ []) (omega arith, (omega arith, tt)) in
+      rw (length-spelt h f) (a, (b, (e, g)))
+
+  pub spelt-lined : Lined (spelt h f) → Lined f
+  spelt-lined p =
+      let (a, (b, (c, d))) = rw (length-spelt h f) at p in (
+        a,
+        (
+          b,
+          (
+            spell-back h (getD f 0 0) 58 (omega arith) (sym (getD-spelt h f 0) ∙ c),
+            spelt-back h (drop (length f - 2) f) (13 ∷ 10 ∷ []) (omega arith, (omega arith, tt)) (sym (drop-spelt h f (length f - 2)) ∙ d),
+          ),
+        ),
+      )
+
+  pub short-spelt : ShortLine f → ShortLine (spelt h f)
+  short-spelt (n, d) = (length-spelt h f ∙ n, rw (digits-spelt h f 1 15 d) d)
 
 module _ (f : List ℕ) where
   pub ascii-unlined : ¬ Lined f → unwrap Ascii f ≡ stop frameBroken

@@ -9,7 +9,9 @@ use borrow.Fn.Kinds.{Dens, resT, endedOf}
 use denote.Ref.{now}
 use denote.Triple.Clauses.{Lasts, atExit}
 use Rattle.modbus.specs.Paper.{protoOf}
+use Rattle.modbus.specs.Hex.{spelt}
 use Rattle.modbus.specs.Frame.{startOf}
+use Rattle.modbus.specs.Decode.{spelledIn}
 use Rattle.modbus.specs.declared.ModbusProto.the-variants.{Ascii}
 use Rattle.modbus.proofs.Unique.{Unique}
 use Rattle.transports.specs.Opened.{source}
@@ -40,9 +42,9 @@ pub open-ascii : (κs : Lfts 2) (a : Dens κs open-ascii-kinds.ps) (x y : ℕ)
     (u v : Lasts (endedOf 2 open-ascii-kinds.ps open-ascii-kinds.r) κs a)
     → open-ascii-reads.Post κs a x (atExit (endedOf 2 open-ascii-kinds.ps open-ascii-kinds.r) κs a u)
     → open-ascii-reads.Post κs a y (atExit (endedOf 2 open-ascii-kinds.ps open-ascii-kinds.r) κs a v)
-    → (x ≡ y) × (2 ≤ x → take x (u .1 .0) ≡ take x (v .1 .0))
+    → (x ≡ y) × (2 ≤ x → take x (u .1 .1 .0) ≡ take x (v .1 .1 .0))
 open-ascii κs a x y u v p q =
-    (p .0 ∙ sym (q .0), same-body Ascii (a .0 .now) x (p .0) (u .1 .0) (v .1 .0) (p .1 .0) (q .1 .0))
+    (p .0 ∙ sym (q .0), same-body Ascii (spelt (a .0) (a .1 .0 .now)) x (p .0) (u .1 .1 .0) (v .1 .1 .0) (p .1 .0) (q .1 .0))
 
 -- the same where the body stands
 pub «open» : (κs : Lfts 2) (a : Dens κs open-kinds.ps) (x y : ℕ) (u v : Lasts (endedOf 2 open-kinds.ps open-kinds.r) κs a)
@@ -50,10 +52,10 @@ pub «open» : (κs : Lfts 2) (a : Dens κs open-kinds.ps) (x y : ℕ) (u v : La
     → open-reads.Post κs a y (atExit (endedOf 2 open-kinds.ps open-kinds.r) κs a v)
     → (x ≡ y)
     × (2 ≤ x
-    → take x (drop (startOf (protoOf (a .0))) (source (protoOf (a .0)) (a .1 .0 .now) (u .1 .1 .0)))
-    ≡ take x (drop (startOf (protoOf (a .0))) (source (protoOf (a .0)) (a .1 .0 .now) (v .1 .1 .0))))
+    → take x (drop (startOf (protoOf (a .0))) (source (protoOf (a .0)) (a .1 .1 .0 .now) (u .1 .1 .1 .0)))
+    ≡ take x (drop (startOf (protoOf (a .0))) (source (protoOf (a .0)) (a .1 .1 .0 .now) (v .1 .1 .1 .0))))
 «open» κs a x y u v p q =
-    (p .0 ∙ sym (q .0), same-body (protoOf (a .0)) (a .1 .0 .now) x (p .0) _ _ (p .1 .0) (q .1 .0))
+    (p .0 ∙ sym (q .0), same-body (protoOf (a .0)) (spelledIn (protoOf (a .0)) (a .1 .0) (a .1 .1 .0 .now)) x (p .0) _ _ (p .1 .0) (q .1 .0))
 
 pub start-of : Unique 0 start-of-kinds.ps start-of-kinds.r start-of-reads.Post
 start-of κs a x y u v p q = (p ∙ sym q, refl)

@@ -14,21 +14,22 @@ ghost use mathlib.Core.Path.{_≡_};
 ghost use lib.ListN.{length, drop};
 ghost use Rattle.modbus.specs.Paper.{protoOf};
 ghost use Rattle.modbus.specs.Frame.{tagOf, startOf};
-ghost use Rattle.modbus.specs.Decode.{unwrap};
+ghost use Rattle.modbus.specs.Decode.{unwrap, spelledIn};
 ghost use Rattle.transports.specs.Opened.{opened, Fronted, source};
 ghost use Rattle.transports.specs.Sealed.{sealed};
 
-// How many bytes the body of a frame has: 0 if the frame is broken, 1 if its check is wrong. An ASCII frame is decoded to `raw`.
-pub fn open(transport: u8, frame: &[u8], raw: &mut [u8; 256]) -> usize
-    ensures { λ r. ⌜ r ≡ opened (unwrap (protoOf transport) (now (frame .entry))) ⌝ }
-    ensures { λ _. ⌜ Fronted (unwrap (protoOf transport) (now (frame .entry))) (drop (startOf (protoOf transport)) (source (protoOf transport) (now (frame .entry)) (now (raw .exit)))) ⌝ }
+// How many bytes the body of a frame has: 0 if the frame is broken, 1 if its check is wrong. An ASCII frame is decoded to `raw`, with
+// digits a-f where `hex` is not 0.
+pub fn open(transport: u8, hex: u8, frame: &[u8], raw: &mut [u8; 256]) -> usize
+    ensures { λ r. ⌜ r ≡ opened (unwrap (protoOf transport) (spelledIn (protoOf transport) hex (now (frame .entry)))) ⌝ }
+    ensures { λ _. ⌜ Fronted (unwrap (protoOf transport) (spelledIn (protoOf transport) hex (now (frame .entry)))) (drop (startOf (protoOf transport)) (source (protoOf transport) (now (frame .entry)) (now (raw .exit)))) ⌝ }
     ensures { λ _. ⌜ length (now (raw .exit)) ≡ length (now (raw .entry)) ⌝ }
 {
     if transport == 0 {
         return open_rtu(frame);
     }
     if transport == 1 {
-        return open_ascii(frame, raw);
+        return open_ascii(hex, frame, raw);
     }
     open_tcp(frame)
 }

@@ -1,7 +1,7 @@
 // ASCII frames: a colon, the text of a body and its LRC, CR and LF.
 use ascii::low_digit;
 use ascii::other;
-use ascii::parse_ascii_frame;
+use ascii::parse_text;
 use ascii::put_text;
 use checks::calc_lrc;
 use modbus::ByteAnswer;
@@ -15,7 +15,7 @@ ghost use lib.ListN.{length, take, drop};
 ghost use lib.Seq.{sets};
 ghost use Rattle.modbus.specs.Step.{choose};
 ghost use Rattle.modbus.specs.Check.{lrc};
-ghost use Rattle.modbus.specs.Hex.{text};
+ghost use Rattle.modbus.specs.Hex.{spelt, text};
 ghost use Rattle.modbus.specs.Decode.{unwrap};
 ghost use Rattle.modbus.specs.declared.ModbusProto.the-variants.{Ascii};
 ghost use Rattle.ascii.specs.Plain.{Digit, value, pairValues};
@@ -111,10 +111,10 @@ fn decode_eight(line: &[u8], raw: &mut [u8])
     }
 }
 
-// The body is decoded to the front of `raw`.
-pub fn open_ascii(frame: &[u8], raw: &mut [u8; 256]) -> usize
-    ensures { λ r. ⌜ r ≡ opened (unwrap Ascii (now (frame .entry))) ⌝ }
-    ensures { λ _. ⌜ Fronted (unwrap Ascii (now (frame .entry))) (now (raw .exit)) ⌝ }
+// The body is decoded to the front of `raw`. A line of seven bytes in capitals means the same under every switch.
+pub fn open_ascii(hex: u8, frame: &[u8], raw: &mut [u8; 256]) -> usize
+    ensures { λ r. ⌜ r ≡ opened (unwrap Ascii (spelt hex (now (frame .entry)))) ⌝ }
+    ensures { λ _. ⌜ Fronted (unwrap Ascii (spelt hex (now (frame .entry)))) (now (raw .exit)) ⌝ }
     ensures { λ _. ⌜ length (now (raw .exit)) ≡ length (now (raw .entry)) ⌝ }
 {
     if unlined(frame) {
@@ -124,7 +124,7 @@ pub fn open_ascii(frame: &[u8], raw: &mut [u8; 256]) -> usize
         decode_eight(frame, raw);
         return check_lrc(raw, 7);
     }
-    match parse_ascii_frame(frame, frame.len() - 2, raw, 0) {
+    match parse_text(frame, frame.len() - 2, raw, 0, hex) {
         ByteAnswer::Refused(_) => 0,
         ByteAnswer::Value(n) => {
             if 2 * (n as usize) + 3 != frame.len() {

@@ -31,8 +31,30 @@ pub fn in_the_crate<T>(ask: impl FnOnce() -> T) -> Option<T> {
     got.ok()
 }
 
-/// The answer, or why the crate and document 01 do not agree on where it panics.
+/// The answer, or why the crate and document 01 do not agree on where it panics. Under the lenient switch it is the
+/// crate's to the same text in capitals; a switch that is none is refused before all else (document 02, 2026-06).
 pub fn answer(call: &Call) -> Result<Answer, String> {
+    match (call.which, call.hex) {
+        (_, STRICT) => strictly(call),
+        (CHR_TO_HEX, _) => Ok(kind_told(call.small)?),
+        (_, LENIENT) => strictly(&call.in_capitals()),
+        _ => Ok(Answer { kind: OOB, value: 0, buffer: call.lent() }),
+    }
+}
+
+/// What a character stands for and which kind of digit it is, 16 x kind + digit: 0 number, 1 capital, 2 small letter.
+fn kind_told(c: u8) -> Result<Answer, String> {
+    let kind = match c {
+        b'a'..=b'f' => 2,
+        b'A'..=b'F' => 1,
+        _ => 0,
+    };
+    let answer = strictly(&chr_to_hex(raised(c)))?;
+    let value = if answer.kind == 0 { 16 * kind + answer.value } else { 0 };
+    Ok(Answer { value, ..answer })
+}
+
+fn strictly(call: &Call) -> Result<Answer, String> {
     let mut buffer = call.lent();
     if matches!(call.which, GUESS_REQUEST_FRAME_LEN | GUESS_RESPONSE_FRAME_LEN) && call.small > TCP {
         // the crate has no such proto; document 01 refuses it before all else

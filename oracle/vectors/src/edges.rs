@@ -15,6 +15,58 @@ pub fn edges(put: &mut dyn FnMut(Call)) {
     ascii(put);
 }
 
+/// Document 02's switch (2026-06): every character by its kind, lines in lower and mixed case strict and lenient, and
+/// switches that are none, before all else. Not in the fixed list, which is of strict calls.
+pub fn switches(put: &mut dyn FnMut(Call)) {
+    (0..=255).for_each(|c| put(chr_to_hex(c).under(LENIENT)));
+    let mut calls = Vec::new();
+    let mut keep = |call: Call| calls.push(call);
+    for text in ["", ":", "0a", "a0", ":0103fa\r\n", "aAbBcCdDeEfF", "0a0B", "0g", "`0", "0a\r", "0ab", "0ab\n", "f"] {
+        for room in 0..=text.len() as u16 / 2 + 1 {
+            keep(parse(text.as_bytes(), text.len() as u16, room, 0));
+        }
+        keep(parse(text.as_bytes(), ENDLESS, 3, 1));
+        keep(parse(text.as_bytes(), text.len() as u16, 256, 254));
+        keep(parse(text.as_bytes(), text.len() as u16, 256, 255));
+    }
+    for n in [254, 255, 256] {
+        let text = [&b":"[..], &b"aF".repeat(n), b"\r"].concat();
+        keep(parse(&text, text.len() as u16, 256, 0));
+    }
+    for function in 0..=255 {
+        for count in [4, 118, 119, 122, 123] {
+            let text = line(&head(function, count));
+            for every in 1..=2 {
+                both(&mut keep, &in_small(&text, every), ASCII);
+            }
+        }
+    }
+    for proto in (0..=4).chain([127, 128, 255]) {
+        for frame in [&b""[..], b"aa\0\0\0a", b"a\x10bcdef", b"aaa", b":0fabcd", b":0g", b"G"] {
+            both(&mut keep, frame, proto); // a byte of RTU or TCP is no letter
+        }
+    }
+    for call in calls {
+        for hex in [STRICT, LENIENT, 2, 3, 128, 255] {
+            put(call.clone().under(hex));
+        }
+    }
+}
+
+/// From the first letter on every letter, or every other, in lower case.
+fn in_small(text: &[u8], every: usize) -> Vec<u8> {
+    let mut letters = 0;
+    let spelt = |c: &u8| {
+        letters += usize::from(c.is_ascii_uppercase());
+        if letters % every == 1 % every {
+            c.to_ascii_lowercase()
+        } else {
+            *c
+        }
+    };
+    text.iter().map(spelt).collect()
+}
+
 fn both(put: &mut dyn FnMut(Call), frame: &[u8], proto: u8) {
     put(request(frame, proto));
     put(response(frame, proto));

@@ -25,11 +25,12 @@ fn checks(content: &[u8], put: &mut dyn FnMut(Call)) {
     }
 }
 
-/// Every pair of characters.
+/// Every pair of characters, strict and lenient.
 fn pairs(put: &mut dyn FnMut(Call)) {
     for first in 0..=255 {
         for second in 0..=255 {
             put(parse(&[first, second], 2, 2, 0));
+            put(parse(&[first, second], 2, 2, 0).under(LENIENT));
         }
     }
 }

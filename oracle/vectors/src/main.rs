@@ -28,7 +28,7 @@ mod window;
 
 use chance::Chance;
 use drive::record::Answer;
-use record::{Call, CALLS, FORMAT, NAMES};
+use record::{Call, CALLS, FORMAT, HEAD, NAMES};
 use std::collections::{BTreeMap, BTreeSet};
 use std::io::{BufWriter, ErrorKind, StdoutLock, Write};
 use std::ops::Range;
@@ -69,10 +69,12 @@ fn main() {
 fn stream(n: usize, seed: u64) {
     let mut out = Writer::new(false);
     edges::edges(&mut |call| out.put(call));
+    edges::switches(&mut |call| out.put(call));
     exhaustive::exhaustive(seed, &mut |call| out.put(call));
     let mut chance = Chance(seed);
     while out.total() < n {
-        out.put(random::random(&mut chance));
+        let call = random::random(&mut chance);
+        out.put(random::switched(&mut chance, call));
     }
     out.finish(MODULES_1_TO_3);
 }
@@ -219,11 +221,15 @@ impl Writer {
         let which = usize::from(call.which);
         let answer = answer::answer(&call).unwrap_or_else(|why| {
             fail(&format!(
-                "{why}: {} small {} data_len {} room {} input {:02X?}",
-                NAMES[which], call.small, call.data_len, call.room, call.input
+                "{why}: {} small {} switch {} data_len {} room {} input {:02X?}",
+                NAMES[which], call.small, call.hex, call.data_len, call.room, call.input
             ))
         });
-        self.put_record(which, answer.kind, &call.record(&answer));
+        let mut record = call.record(&answer);
+        if !self.as_text {
+            record.insert(HEAD, call.hex);
+        }
+        self.put_record(which, answer.kind, &record);
     }
 
     fn put_table(&mut self, call: tables::record::Call) {

@@ -14,6 +14,28 @@ pub fn random(chance: &mut Chance) -> Call {
     }
 }
 
+/// Under either switch, its text in either case; now and then under one that is none.
+pub fn switched(chance: &mut Chance, mut call: Call) -> Call {
+    if !matches!(call.which, PARSE_ASCII_FRAME | GUESS_REQUEST_FRAME_LEN | GUESS_RESPONSE_FRAME_LEN) {
+        return call;
+    }
+    call.hex = if chance.percent(2) { chance.pick(&[2, 3, 128, 255]) } else { chance.pick(&[STRICT, LENIENT]) };
+    if call.reads_text() && chance.percent(if call.hex == STRICT { 10 } else { 60 }) {
+        in_small(chance, &mut call.input);
+    }
+    call
+}
+
+/// All, half or some of the letters in lower case.
+pub fn in_small(chance: &mut Chance, text: &mut [u8]) {
+    let some = chance.pick(&[100, 50, 5]);
+    for c in text.iter_mut().filter(|c| matches!(c, b'A'..=b'F')) {
+        if chance.percent(some) {
+            c.make_ascii_lowercase();
+        }
+    }
+}
+
 fn check(chance: &mut Chance, ask: fn(&[u8], u8) -> Call) -> Call {
     let n = length(chance);
     let data_length = if chance.percent(60) { chance.near(n, 3) as u8 } else { chance.byte() };

@@ -25,6 +25,10 @@ pub const RTU: u8 = 0;
 pub const ASCII: u8 = 1;
 pub const TCP: u8 = 2;
 
+/// The switch for lower case. The crate knows strict alone.
+pub const STRICT: u8 = 0;
+pub const LENIENT: u8 = 1;
+
 /// In a record this data_len stands for the largest usize.
 pub const ENDLESS: u16 = 65535;
 
@@ -42,9 +46,14 @@ pub const FORMAT: &str = "\
 #   Before the call byte i of the lent buffer is (0x5A + i) % 256.
 ";
 
+/// A stream has the switch behind the eleven bytes of the head. The list has strict calls alone, and no such byte.
+pub const HEAD: usize = 11;
+
+#[derive(Clone)]
 pub struct Call {
     pub which: u8,
     pub small: u8,
+    pub hex: u8, // of calls 3, 5, 7, 8; under 1 call 3 tells the kind of the digit too
     pub data_len: u16,
     pub room: u16,
     pub input: Vec<u8>,
@@ -57,7 +66,7 @@ pub struct Answer {
 }
 
 fn plain(which: u8, small: u8, input: &[u8]) -> Call {
-    Call { which, small, data_len: 0, room: 0, input: input.to_vec() }
+    Call { which, small, hex: STRICT, data_len: 0, room: 0, input: input.to_vec() }
 }
 
 pub fn crc(frame: &[u8], data_length: u8) -> Call {
@@ -77,11 +86,11 @@ pub fn hex_to_chr(h: u8) -> Call {
 }
 
 pub fn parse(text: &[u8], data_len: u16, room: u16, frame_pos: u8) -> Call {
-    Call { which: PARSE_ASCII_FRAME, small: frame_pos, data_len, room, input: text.to_vec() }
+    Call { which: PARSE_ASCII_FRAME, small: frame_pos, hex: STRICT, data_len, room, input: text.to_vec() }
 }
 
 pub fn generate(bytes: &[u8], room: u16) -> Call {
-    Call { which: GENERATE_ASCII_FRAME, small: 0, data_len: 0, room, input: bytes.to_vec() }
+    Call { which: GENERATE_ASCII_FRAME, small: 0, hex: STRICT, data_len: 0, room, input: bytes.to_vec() }
 }
 
 pub fn request(frame: &[u8], proto: u8) -> Call {
@@ -92,7 +101,35 @@ pub fn response(frame: &[u8], proto: u8) -> Call {
     plain(GUESS_RESPONSE_FRAME_LEN, proto, frame)
 }
 
+/// A letter of a digit in capitals; all else as it is.
+pub fn raised(c: u8) -> u8 {
+    if matches!(c, b'a'..=b'f') {
+        c.to_ascii_uppercase()
+    } else {
+        c
+    }
+}
+
 impl Call {
+    pub fn under(self, hex: u8) -> Call {
+        Call { hex, ..self }
+    }
+
+    /// Whether it reads text, in which lower case is a question.
+    pub fn reads_text(&self) -> bool {
+        let guess = matches!(self.which, GUESS_REQUEST_FRAME_LEN | GUESS_RESPONSE_FRAME_LEN);
+        self.which == PARSE_ASCII_FRAME || guess && self.small == ASCII
+    }
+
+    /// The strict call of the same text in capitals.
+    pub fn in_capitals(&self) -> Call {
+        let mut call = self.clone().under(STRICT);
+        if call.reads_text() {
+            call.input.iter_mut().for_each(|c| *c = raised(*c));
+        }
+        call
+    }
+
     /// The lent buffer before the call.
     pub fn lent(&self) -> Vec<u8> {
         (0..usize::from(self.room)).map(|i| ((0x5A + i) % 256) as u8).collect()
@@ -107,7 +144,7 @@ impl Call {
     }
 
     pub fn size(&self) -> usize {
-        11 + self.input.len() + usize::from(self.room)
+        HEAD + self.input.len() + usize::from(self.room)
     }
 
     pub fn record(&self, answer: &Answer) -> Vec<u8> {

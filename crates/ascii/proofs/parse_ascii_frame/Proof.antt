@@ -1,64 +1,17 @@
--- `ascii::parse_ascii_frame` meets its contract: a plain text is decoded without looking again at its characters.
+-- `ascii::parse_ascii_frame` meets its contract: under one of the two switches it is the reading, and else a refusal.
 -- Assumes nothing.
-use mathlib.Core.Path.{refl}
+use mathlib.Core.Path.{sym, _∙_}
 use native.Mathlib.Omega.{arith}
 use borrow.Author.Needs.{needs}
-use borrow.Author.Tests.{not-false}
-use lib.ListN.{length}
-use Rattle.ascii.proofs.PlainLaws.{begin-small, plain-parts, plain-parsed}
+use Rattle.modbus.proofs.StepLaws.{pick-yes, pick-no}
 use Rattle.ascii.proofs.parse_ascii_frame.Statement.{statement}
 use Rattle.ascii.proofs.parse_ascii_frame.Tie as tie
 
-shared-slice-read-colon : tie.Need-shared-slice-read-colon
-shared-slice-read-colon c =
-    let p = c .before .before .plain .ensures (not-false _ (c .before .if1 .left)) in
-    omega (arith, p .0, p .1)
-
-sub-n : tie.Need-sub-n
-sub-n c =
-    let p = c .before .before .before .plain .ensures (not-false _ (c .before .before .if1 .left)) in
-    omega (arith, p .0, begin-small _ _ (c .colon .ensures))
-
-decode-pairs-requires : tie.Need-decode-pairs-requires
-decode-pairs-requires c κs =
-    let w = c .before .before .before in
-    let a = w .before .before .before .before .args in
-    let p = w .before .plain .ensures (not-false _ (w .if1 .left)) in
-    let q = plain-parts (a .«data» .now) (a .data-len) (length (a .frame-buf .now)) (a .frame-pos) (c .before .colon .result)
-    (c .before .colon .ensures) p in
-    (omega (arith, q .0, p .1), q .2, rw (q .0) (q .3))
-
-cast-t14 : tie.Need-cast-t14
-cast-t14 c =
-    let w = c .before .before .before .before .before .before in
-    let a = w .before .before .before .before .args in
-    let p = w .before .plain .ensures (not-false _ (w .if1 .left)) in
-    let f = c .before .before .before .before in
-    let q = plain-parts (a .«data» .now) (a .data-len) (length (a .frame-buf .now)) (a .frame-pos) (f .colon .result)
-    (f .colon .ensures) p in
-    omega (arith, q .1)
+returns : tie.Need-returns
+returns c = sym (pick-no _ _ _ (λ h. omega (arith, h)))
 
 returns-2 : tie.Need-returns-2
-returns-2 c =
-    let f = c .before .before .before .before in
-    let w = f .before .before in
-    let a = w .before .before .before .before .args in
-    let p = w .before .plain .ensures (not-false _ (w .if1 .left)) in
-    plain-parsed (a .«data» .now) (a .data-len) (a .frame-buf .now) (a .frame-pos) (f .colon .result) _ _ p (f .colon .ensures) refl
-    (c .before .before .decode-pairs .ensures)
+returns-2 c = c .before .before .parse-text .ensures ∙ sym (pick-yes _ _ _ (omega arith))
 
 pub parse-ascii-frame-spec : {M : Type 1} → statement M
-parse-ascii-frame-spec =
-    tie.close
-    (tie.spec
-    (λ c κs. search needs)
-    (λ c κs. search needs)
-    (λ c. search needs)
-    (λ c. search needs)
-    shared-slice-read-colon
-    (λ c κs. search needs)
-    sub-n
-    decode-pairs-requires
-    cast-t14
-    (λ c. search needs)
-    returns-2)
+parse-ascii-frame-spec = tie.close (tie.spec returns (λ c κs. search needs) (λ c. search needs) returns-2)

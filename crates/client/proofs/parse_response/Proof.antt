@@ -9,7 +9,7 @@ use borrow.Author.Needs.{needs}
 use Rattle.modbus.specs.Paper.{protoOf}
 use Rattle.modbus.specs.Frame.{startOf}
 use Rattle.transports.specs.Opened.{faultOf}
-use Rattle.transports.proofs.AnswerLaws.{opened-none, opened-body}
+use Rattle.client.proofs.StrictLaws.{strict-none, strict-body}
 use Rattle.client.specs.Asking.{badRequest, readInto}
 use Rattle.client.specs.Hearing.{messageIn, repliedTo}
 use Rattle.client.proofs.CloseLaws.{start-six}
@@ -27,7 +27,7 @@ returns-2 c =
     let o = c .before .before .«open» in
     told-stop _ _ _ badRequest 11
     (unopened (v .proto) (v .request .now) _ _ (omega (arith, c .before .before .before .before .if1 .left)) (faultOf (o .result))
-    (opened-none (protoOf (v .proto)) (v .request .now) (o .result) (o .ensures .0) (c .before .if2 .taken)))
+    (strict-none (protoOf (v .proto)) (v .request .now) (o .result) (o .ensures .0) (c .before .if2 .taken)))
     (c .told2 .ensures) refl
 
 add-end : tie.Need-add-end
@@ -35,7 +35,7 @@ add-end c =
     let s = c .before .before .before .before .before .before .before .before in
     let v = s .args in
     let o = c .before .before .«open» in
-    let h = opened-body (protoOf (v .proto)) (v .request .now) (o .result) (o .ensures .0) _ (o .ensures .1 .0) (o .ensures .1 .1) (omega (arith, c .before .if2 .left)) in
+    let h = strict-body (protoOf (v .proto)) (v .request .now) (o .result) (o .ensures .0) _ (o .ensures .1 .0) (o .ensures .1 .1) (omega (arith, c .before .if2 .left)) in
     record { fits = omega (arith, h .4, start-six (protoOf (v .proto)), c .start-of .ensures) }
 
 part-answer-to-end : tie.Need-part-answer-to-end
@@ -43,7 +43,7 @@ part-answer-to-end c =
     let s = c .before .before .before .before .before .before .before .before .before .before in
     let v = s .args in
     let o = c .before .before .before .before .«open» in
-    let h = opened-body (protoOf (v .proto)) (v .request .now) (o .result) (o .ensures .0) _ (o .ensures .1 .0) (o .ensures .1 .1) (omega (arith, c .before .before .before .if2 .left)) in
+    let h = strict-body (protoOf (v .proto)) (v .request .now) (o .result) (o .ensures .0) _ (o .ensures .1 .0) (o .ensures .1 .1) (omega (arith, c .before .before .before .if2 .left)) in
     rw (c .body-source .ensures, c .before .before .start-of .ensures) (h .2)
 
 answer-to-requires : tie.Need-answer-to-requires
@@ -51,7 +51,7 @@ answer-to-requires c κs =
     let s = c .before .before .before .before .before .before .before .before .before .before .before .before in
     let v = s .args in
     let o = c .before .before .before .before .before .before .«open» in
-    let h = opened-body (protoOf (v .proto)) (v .request .now) (o .result) (o .ensures .0) _ (o .ensures .1 .0) (o .ensures .1 .1) (omega (arith, c .before .before .before .before .before .if2 .left)) in
+    let h = strict-body (protoOf (v .proto)) (v .request .now) (o .result) (o .ensures .0) _ (o .ensures .1 .0) (o .ensures .1 .1) (omega (arith, c .before .before .before .before .before .if2 .left)) in
     (h .3, part-long _ _ _ (h .1) (rw (c .before .before .body-source .ensures, c .before .before .before .before .start-of .ensures) (h .2)))
 
 returns-3 : tie.Need-returns-3
@@ -59,7 +59,7 @@ returns-3 c =
     let s = c .before .before .before .before .before .before .before .before .before .before .before .before .before .before .before in
     let v = s .args in
     let o = c .before .before .before .before .before .before .before .before .before .«open» in
-    let h = opened-body (protoOf (v .proto)) (v .request .now) (o .result) (o .ensures .0) _ (o .ensures .1 .0) (o .ensures .1 .1) (omega (arith, c .before .before .before .before .before .before .before .before .if2 .left)) in
+    let h = strict-body (protoOf (v .proto)) (v .request .now) (o .result) (o .ensures .0) _ (o .ensures .1 .0) (o .ensures .1 .1) (omega (arith, c .before .before .before .before .before .before .before .before .if2 .left)) in
     c .before .before .answer-to .ensures
     ∙ ap (λ (l : List ℕ). readInto (v .values .now) (repliedTo (v .proto) (messageIn (v .proto) (v .request .now) l) (v .response .now) (length (v .values .now))))
     (part-same _ (o .result) (startOf (protoOf (v .proto))) _ _ (c .before .before .before .before .before .before .before .start-of .ensures) (c .before .before .before .before .before .body-source .ensures))

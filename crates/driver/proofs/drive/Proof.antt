@@ -8,7 +8,7 @@ use lib.ListN.{getD}
 use borrow.Author.Needs.{needs}
 use Rattle.modbus.specs.Frame.{tagOf, startOf}
 use Rattle.modbus.specs.Paper.{protoOf}
-use Rattle.transports.proofs.AnswerLaws.{opened-body}
+use Rattle.transports.proofs.AnswerLaws.{opened-under}
 use Rattle.driver.specs.declared.Driven.{Driven}
 use Rattle.driver.specs.Driven.{lentIn, leaving}
 use Rattle.driver.specs.Serving.{handled}
@@ -46,14 +46,14 @@ add-end : tie.Need-add-end
 add-end c =
     let a = c .before .before .before .before .before .before .before .before .before .before .before .before .before .before .before .args in
     let o = c .before .before .«open» in
-    let b = opened-body (protoOf (a .setup .transport)) (a .frame .now) (o .result) (o .ensures .0) _ (o .ensures .1 .0) (o .ensures .1 .1) (omega (arith, c .before .if3 .left)) in
+    let b = opened-under (protoOf (a .setup .transport)) (a .setup .hex) (a .frame .now) (o .result) (o .ensures .0) _ (o .ensures .1 .0) (o .ensures .1 .1) (omega (arith, c .before .if3 .left)) in
     record { fits = omega (arith, b .4, start-most (a .setup .transport), c .start-of .ensures) }
 
 part-handle-end : tie.Need-part-handle-end
 part-handle-end c =
     let a = c .before .before .before .before .before .before .before .before .before .before .before .before .before .before .before .before .before .args in
     let o = c .before .before .before .before .«open» in
-    let b = opened-body (protoOf (a .setup .transport)) (a .frame .now) (o .result) (o .ensures .0) _ (o .ensures .1 .0) (o .ensures .1 .1) (omega (arith, c .before .before .before .if3 .left)) in
+    let b = opened-under (protoOf (a .setup .transport)) (a .setup .hex) (a .frame .now) (o .result) (o .ensures .0) _ (o .ensures .1 .0) (o .ensures .1 .1) (omega (arith, c .before .before .before .if3 .left)) in
     rw (c .body-source .ensures, c .before .before .start-of .ensures) (b .2)
 
 handle-requires : tie.Need-handle-requires
@@ -63,7 +63,7 @@ handle-requires c κs =
     let l = lentIn (a .setup) (a .coils .now) (a .discretes .now) (a .holdings .now) (a .inputs .now) in
     let v = good-valid (a .setup) (a .list .now) (a .coils .now) (a .discretes .now) (a .holdings .now) (a .inputs .now) (a .reply .now) (c .before .before .before .before .before .before .before .before .before .before .before .before .before .bad-setup .ensures .1 (c .before .before .before .before .before .before .before .before .before .before .before .before .if1 .left)) in
     let o = c .before .before .before .before .before .before .before .before .«open» in
-    let b = opened-body (protoOf (a .setup .transport)) (a .frame .now) (o .result) (o .ensures .0) _ (o .ensures .1 .0) (o .ensures .1 .1) (omega (arith, c .before .before .before .before .before .before .before .if3 .left)) in
+    let b = opened-under (protoOf (a .setup .transport)) (a .setup .hex) (a .frame .now) (o .result) (o .ensures .0) _ (o .ensures .1 .0) (o .ensures .1 .1) (omega (arith, c .before .before .before .before .before .before .before .if3 .left)) in
     let e = c .before .before .before .before .before .before .start-of .ensures in
     ((part-long _ _ _ (b .1) (rw (c .before .before .before .before .body-source .ensures, e) (b .2)), e, c .before .before .before .before .before .before .before .before .before .before .before .no-room .ensures .1 (c .before .before .before .before .before .before .before .before .before .before .if2 .left), b .3), valid-sized (a .setup) (a .list .now) (a .coils .now) (a .discretes .now) (a .holdings .now) (a .inputs .now) (a .reply .now) v)
 
@@ -75,7 +75,7 @@ returns-4 c =
     let v = good-valid (a .setup) (a .list .now) (a .coils .now) (a .discretes .now) (a .holdings .now) (a .inputs .now) (a .reply .now) (c .before .before .before .before .before .before .before .before .before .before .before .before .before .before .before .before .before .before .before .before .bad-setup .ensures .1 (c .before .before .before .before .before .before .before .before .before .before .before .before .before .before .before .before .before .before .before .if1 .left)) in
     let r = c .before .before .before .before .before .before .before .before .before .before .before .before .before .before .before .before .before .before .no-room .ensures .1 (c .before .before .before .before .before .before .before .before .before .before .before .before .before .before .before .before .before .if2 .left) in
     let o = c .before .before .before .before .before .before .before .before .before .before .before .before .before .before .before .«open» in
-    let b = opened-body (protoOf (a .setup .transport)) (a .frame .now) (o .result) (o .ensures .0) _ (o .ensures .1 .0) (o .ensures .1 .1) (omega (arith, c .before .before .before .before .before .before .before .before .before .before .before .before .before .before .if3 .left)) in
+    let b = opened-under (protoOf (a .setup .transport)) (a .setup .hex) (a .frame .now) (o .result) (o .ensures .0) _ (o .ensures .1 .0) (o .ensures .1 .1) (omega (arith, c .before .before .before .before .before .before .before .before .before .before .before .before .before .before .if3 .left)) in
     let p = protoOf (a .setup .transport) in
     let tag = tagOf p (getD (a .frame .now) 0 0) (getD (a .frame .now) 1 0) in
     c .before .before .before .before .before .before .handle .ensures

@@ -11,7 +11,7 @@ pub use record::{Answer, Call};
 
 use crate::drive::model::{ANSWERED, EXCEPTION, FRAME_BROKEN};
 use crate::drive::wire::word;
-use crate::record::{ASCII, RTU, TCP};
+use crate::record::{ASCII, RTU, STRICT, TCP};
 use record::{Ask, BAD_REQUEST};
 use theirs::Said;
 
@@ -91,7 +91,7 @@ fn unread(call: &Call, reply: &[u8], kind: u8, said: &Said) -> Option<&'static s
             _ => (reply.len() > 260).then_some(LONG_TCP),
         };
     }
-    let body = crate::drive::model::unwrap(call.to.proto, reply).ok()?;
+    let body = crate::drive::model::unwrap(call.to.proto, STRICT, reply).ok()?;
     match said {
         Said::Panicked => (func <= 4 && body.len() == 3).then_some(NO_DATA),
         Said::Exception(_) if body[1] != func | 128 => Some(OTHER_FUNCTION),

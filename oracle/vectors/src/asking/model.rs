@@ -2,7 +2,7 @@
 use super::record::*;
 use crate::drive::model::{unwrap, ANSWERED, EXCEPTION};
 use crate::drive::wire::{word, wrap};
-use crate::record::TCP;
+use crate::record::{STRICT, TCP};
 
 /// How many cells a function may name.
 pub fn most(func: u8) -> usize {
@@ -71,7 +71,7 @@ pub fn answer(call: &Call) -> Answer {
 fn read(call: &Call, sent: &[u8], reply: &[u8]) -> (u8, u8, Vec<u16>) {
     let (func, cells) = (sent[1], call.ask.cells());
     let bytes = octets(func, cells);
-    let body = match unwrap(call.to.proto, reply) {
+    let body = match unwrap(call.to.proto, STRICT, reply) {
         Ok(body) => body,
         Err(outcome) => return (outcome, 0, Vec::new()),
     };

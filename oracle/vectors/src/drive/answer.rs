@@ -39,9 +39,10 @@ pub const WAYS: [&str; 21] = [
 /// The stages of the crate that panic, each to come up in a stream.
 pub const PANICS: [&str; 4] = ["parse_ascii_frame", "parse", "process_write", "finalize_response"];
 
-/// The answer, and where the crate panicked.
+/// The answer, and where the crate panicked. Under the lenient switch the crate is given the text in capitals.
 pub fn answer(call: &Call) -> Result<(Answer, Option<&'static str>), String> {
     let (outcome, code, said) = model::drive(call);
+    let call = &call.in_capitals();
     let (left, panicked) = chain::ask(call);
     let known = lenient::left(call);
     if known.0 != left || known.1 != panicked {

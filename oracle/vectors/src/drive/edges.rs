@@ -5,7 +5,7 @@ use super::random::lent;
 use super::record::*;
 use super::wire::wrap;
 use crate::chance::Chance;
-use crate::record::{ASCII, RTU, TCP};
+use crate::record::{ASCII, LENIENT, RTU, STRICT, TCP};
 
 /// Frames as sent, to unit 1 with the list [0] and 16 coils and 4 holdings.
 const RTU_FRAMES: [&str; 7] = [
@@ -31,6 +31,27 @@ const LINES: [&str; 13] = [
     ":010300000002FA\n",
     ":010300000002FA\r\n\r\n",
     ":010300000002FA00\r\n",
+];
+/// Document 02's lines in lower and mixed case, and both sides of each kind of digit.
+const SPELT: [&str; 18] = [
+    ":010300000002fa\r\n",
+    ":010300000002Fa\r\n",
+    ":010300000002fb\r\n",
+    ":01060002abCD7f\r\n",
+    ":01060002abcd7F\r\n",
+    ":01060002abgd7F\r\n",
+    ":01060002000/F7\r\n",
+    ":010600020000F7\r\n",
+    ":010600020009EE\r\n",
+    ":01060002000:F7\r\n",
+    ":01060002000@F7\r\n",
+    ":01060002000AED\r\n",
+    ":01060002000FE8\r\n",
+    ":01060002000GF7\r\n",
+    ":01060002000`F7\r\n",
+    ":01060002000aED\r\n",
+    ":01060002000fE8\r\n",
+    ":01060002000gF7\r\n",
 ];
 const TCP_FRAMES: [&str; 18] = [
     "00000000",
@@ -82,11 +103,21 @@ fn bytes(text: &str) -> Vec<u8> {
 
 pub fn edges(seed: u64, put: &mut dyn FnMut(Call)) {
     let mut chance = Chance(seed ^ 0xED6E);
-    let mut send = |shape: usize, transport: u8, frame: Vec<u8>| {
+    let mut send_under = |hex: u8, shape: usize, transport: u8, frame: Vec<u8>| {
         let call = lent(&mut chance, shape);
         let room = if transport == ASCII { 511 } else { 260 };
-        put(Call { transport, unit: 1, list: vec![0], room, frame, ..call });
+        put(Call { transport, unit: 1, hex, list: vec![0], room, frame, ..call });
     };
+    for hex in [STRICT, LENIENT] {
+        SPELT.iter().for_each(|f| send_under(hex, 0, ASCII, f.as_bytes().to_vec()));
+        LINES.iter().for_each(|f| send_under(hex, 0, ASCII, f.to_ascii_lowercase().into_bytes()));
+        for body in BODIES {
+            send_under(hex, 0, ASCII, wrap(ASCII, [0, 0], &bytes(body)).to_ascii_lowercase());
+        }
+        send_under(hex, 0, RTU, wrap(RTU, [0, 0], &bytes("010600026162"))); // bytes of RTU and TCP are no letters
+        send_under(hex, 0, TCP, wrap(TCP, [0x61, 0x66], &bytes("010600026162")));
+    }
+    let mut send = |shape: usize, transport: u8, frame: Vec<u8>| send_under(STRICT, shape, transport, frame);
     RTU_FRAMES.iter().for_each(|f| send(0, RTU, bytes(f)));
     LINES.iter().for_each(|f| send(0, ASCII, f.as_bytes().to_vec()));
     TCP_FRAMES.iter().for_each(|f| send(0, TCP, bytes(f)));

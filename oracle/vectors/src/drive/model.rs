@@ -1,7 +1,8 @@
-//! Document 01's driver, with document 02's functions 22 and 23, written plainly from the pages.
+//! Document 01's driver, with document 02's functions 22 and 23 and its switch for lower case, written plainly from the
+//! pages.
 use super::record::*;
 use super::wire::*;
-use crate::record::{ASCII, RTU};
+use crate::record::{ASCII, LENIENT, RTU};
 
 pub const ANSWERED: u8 = 0;
 pub const BROADCAST_DONE: u8 = 1;
@@ -53,11 +54,11 @@ fn opened(call: &Call) -> Result<Vec<u8>, u8> {
     if call.room < if call.transport == ASCII { 511 } else { 260 } {
         return Err(NO_ROOM);
     }
-    unwrap(call.transport, &call.frame)
+    unwrap(call.transport, call.hex, &call.frame)
 }
 
-/// From the unit byte, without check; or FrameBroken, FrameCheck.
-pub fn unwrap(transport: u8, frame: &[u8]) -> Result<Vec<u8>, u8> {
+/// From the unit byte, without check; or FrameBroken, FrameCheck. A lenient line may have each digit in either case.
+pub fn unwrap(transport: u8, hex: u8, frame: &[u8]) -> Result<Vec<u8>, u8> {
     match transport {
         RTU => {
             if !(4..=256).contains(&frame.len()) {
@@ -73,11 +74,17 @@ pub fn unwrap(transport: u8, frame: &[u8]) -> Result<Vec<u8>, u8> {
         ASCII => {
             let digits = frame.strip_prefix(b":").and_then(|f| f.strip_suffix(b"\r\n")).ok_or(FRAME_BROKEN)?;
             let even = digits.len() % 2 == 0 && (6..=508).contains(&digits.len());
-            if !even || !digits.iter().all(|c| matches!(c, b'0'..=b'9' | b'A'..=b'F')) {
+            let value = |c: &u8| match c {
+                b'0'..=b'9' => Ok(c - b'0'),
+                b'A'..=b'F' => Ok(c - b'A' + 10),
+                b'a'..=b'f' if hex == LENIENT => Ok(c - b'a' + 10),
+                _ => Err(FRAME_BROKEN),
+            };
+            let values: Vec<u8> = digits.iter().map(value).collect::<Result<_, _>>()?;
+            if !even {
                 return Err(FRAME_BROKEN);
             }
-            let value = |c: u8| if c <= b'9' { c - b'0' } else { c - b'A' + 10 };
-            let mut body: Vec<u8> = digits.chunks(2).map(|pair| 16 * value(pair[0]) + value(pair[1])).collect();
+            let mut body: Vec<u8> = values.chunks(2).map(|pair| 16 * pair[0] + pair[1]).collect();
             if lrc(&body) != 0 {
                 return Err(FRAME_CHECK);
             }

@@ -3,7 +3,8 @@ use super::chain::SHAPES;
 use super::record::*;
 use super::wire::*;
 use crate::chance::Chance;
-use crate::record::{ASCII, RTU, TCP};
+use crate::random::in_small;
+use crate::record::{ASCII, LENIENT, RTU, STRICT, TCP};
 use crate::tables::record::{bytes_of, Table};
 
 pub fn random(chance: &mut Chance) -> Call {
@@ -35,7 +36,8 @@ pub fn lent(chance: &mut Chance, shape: usize) -> Call {
         _ => vec![0],
     };
     let room = if transport == ASCII { 511 } else { 260 } + chance.pick(&[0, 0, 1, 200]);
-    Call { transport, unit, list, tables, room, frame: Vec::new() }
+    let hex = chance.pick(&[STRICT, LENIENT]);
+    Call { transport, unit, hex, list, tables, room, frame: Vec::new() }
 }
 
 fn frame(chance: &mut Chance, call: &Call) -> Vec<u8> {
@@ -55,6 +57,9 @@ fn frame(chance: &mut Chance, call: &Call) -> Vec<u8> {
         body.extend(chance.bytes_up_to(3));
     }
     let mut frame = wrap(call.transport, transaction, &body);
+    if (call.transport, call.hex) == (ASCII, LENIENT) && chance.percent(60) {
+        in_small(chance, &mut frame);
+    }
     match chance.below(20) {
         0 => damage(chance, &mut frame),
         1 if call.transport == ASCII => text_damage(chance, &mut frame),

@@ -11,9 +11,11 @@
 //!     bytes 10-11  the length of the reply expected
 //!     byte 12      1: the coils are expected to change, 2: the holdings, 0: neither
 //!     bytes 13-44  cells and slice length (4 bytes each) of coils, discretes, holdings, inputs
+//!     byte 45      the switch for lower case; under 1 the crate was given the text in capitals
 //!     then the list, the frame, the four tables before the call, the reply expected and, where byte 12 says so, the
 //!     table as expected after it.
 //!     Before the call byte i of the lent reply buffer is (0x5A + i) % 256.
+use crate::record::{raised, ASCII, LENIENT, STRICT};
 use crate::tables::record::Table;
 
 pub const COILS: usize = 0;
@@ -25,6 +27,7 @@ pub const INPUTS: usize = 3;
 pub struct Call {
     pub transport: u8,
     pub unit: u8,
+    pub hex: u8,
     pub list: Vec<u8>,
     pub tables: [Table; 4],
     pub room: usize,
@@ -54,6 +57,15 @@ impl Call {
         Left { reply: Vec::new(), coils: bytes(COILS), holdings: bytes(HOLDINGS) }
     }
 
+    /// What the crate, which is strict, is given in place of a lenient call.
+    pub fn in_capitals(&self) -> Call {
+        let mut call = Call { hex: STRICT, ..self.clone() };
+        if (self.transport, self.hex) == (ASCII, LENIENT) {
+            call.frame.iter_mut().for_each(|c| *c = raised(*c));
+        }
+        call
+    }
+
     pub fn record(&self, answer: &Answer) -> Vec<u8> {
         let two = |n: usize| u16::try_from(n).expect("a length too large for a record").to_be_bytes();
         let (left, lent) = (&answer.left, &self.tables);
@@ -67,6 +79,7 @@ impl Call {
             r.extend((table.cells as u32).to_be_bytes());
             r.extend((table.bytes.len() as u32).to_be_bytes());
         }
+        r.push(self.hex);
         r.extend(&self.list);
         r.extend(&self.frame);
         for table in lent {
@@ -86,7 +99,8 @@ impl Call {
 impl std::fmt::Display for Call {
     fn fmt(&self, f: &mut std::fmt::Formatter<'_>) -> std::fmt::Result {
         let cells = self.tables.clone().map(|t| t.cells);
-        write!(f, "transport {} unit {} list {:?} cells {cells:?} ", self.transport, self.unit, self.list)?;
+        write!(f, "transport {} unit {} switch {} ", self.transport, self.unit, self.hex)?;
+        write!(f, "list {:?} cells {cells:?} ", self.list)?;
         write!(f, "room {} frame {:02X?}", self.room, self.frame)
     }
 }

@@ -44,7 +44,7 @@ returns-2 c =
 mul-buf : tie.Need-mul-buf Inv-loop μ-loop
 mul-buf c =
     let x = c .before .before .before .before .before .before in
-    omega (arith, value-told _ _ _ (x .before .before .chr-to-hex .ensures) (x .a .given .1) .0)
+    omega (arith, value-told _ _ _ (x .before .before .strict-digit .ensures) (x .a .given .1) .0)
 
 add-buf : tie.Need-add-buf Inv-loop μ-loop
 add-buf c =
@@ -52,8 +52,8 @@ add-buf c =
     let x = y .before .before .before .before .before in
     omega (
       arith,
-      value-told _ _ _ (x .before .before .chr-to-hex .ensures) (x .a .given .1) .0,
-      value-told _ _ _ (y .before .before .chr-to-hex2 .ensures) (y .b .given .1) .0,
+      value-told _ _ _ (x .before .before .strict-digit .ensures) (x .a .given .1) .0,
+      value-told _ _ _ (y .before .before .strict-digit2 .ensures) (y .b .given .1) .0,
     )
 
 loop-again : tie.Need-loop-again Inv-loop μ-loop
@@ -67,8 +67,8 @@ loop-again c =
     let p : a .at + (i + 1) ≡ suc (a .at + i) = omega arith in (
       omega arith,
       simp length-set (l .loop .inv .1),
-      rw (q, p) (begun-on _ _ _ _ _ _ _ (l .loop .inv .2) _ _ (value-told _ _ _ (x .before .before .chr-to-hex .ensures) (x .a .given .1) .1)
-          (value-told _ _ _ (y .before .before .chr-to-hex2 .ensures) (y .b .given .1) .1)),
+      rw (q, p) (begun-on _ _ _ _ _ _ _ (l .loop .inv .2) _ _ (value-told _ _ _ (x .before .before .strict-digit .ensures) (x .a .given .1) .1)
+          (value-told _ _ _ (y .before .before .strict-digit2 .ensures) (y .b .given .1) .1)),
     )
 
 same-length-3 : tie.Need-same-length-3 Inv-loop μ-loop
