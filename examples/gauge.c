@@ -3,10 +3,12 @@
  * whether it wants the lamp (coil 0).
  *
  * The board calls uart_bytes() with what an interrupt brings, line_quiet() when nothing came for 3.5 characters, and
- * pressure() with each measurement; it has uart_send(). The UART's interrupt is off while line_quiet() runs. */
+ * pressure() with each measurement; it has uart_send(), and keep_point(), which keeps a point over a loss of power. The
+ * UART's interrupt is off while line_quiet() runs. */
 #include "dalonjang.h"
 
 void uart_send(const uint8_t *bytes, size_t len); /* the board's */
+void keep_point(size_t n, uint16_t point);
 
 enum { UNIT = 1, POINTS = 8 };
 
@@ -24,6 +26,9 @@ void uart_bytes(const uint8_t *bytes, size_t len) { dalonjang_offer(collector, s
 
 void line_quiet(void) {
     struct dalonjang_result r = dalonjang_serve_quiet(&gauge, collector, sizeof collector, reply, sizeof reply);
+    if (r.table == DALONJANG_HOLDINGS) /* these points are new, and no others */
+        for (size_t n = r.first; n < (size_t)r.first + r.count; n++)
+            keep_point(n, (uint16_t)(points[2 * n] << 8 | points[2 * n + 1]));
     if (r.length > 0) uart_send(reply, r.length);
 }
 

@@ -131,11 +131,11 @@ static int put_block(struct image *i, int t, size_t first, const uint8_t *bytes,
     return (sqlite3_reset(i->put) == SQLITE_OK && done) || fault(i, "cannot be saved");
 }
 
-/* The blocks that differ from what stands there, in one transaction: all of them or none. */
-int image_keep(struct image *i, const struct table tables[TABLES]) {
+/* The blocks of these parts that differ from what stands there, in one transaction: all of them or none. */
+int image_keep(struct image *i, const struct table tables[TABLES], const struct part parts[TABLES]) {
     int begun = 0, moved = 0;
     for (int t = 0; t < TABLES; t++) {
-        for (size_t first = 0; first < tables[t].len; first += BLOCK) {
+        for (size_t first = parts[t].from / BLOCK * BLOCK; first < parts[t].to; first += BLOCK) {
             size_t len = least(BLOCK, tables[t].len - first);
             const uint8_t *now = tables[t].bytes + first;
             if (memcmp(now, i->kept[t] + first, len) == 0) continue;

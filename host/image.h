@@ -14,7 +14,8 @@ struct image {
 /* Opens or makes it, for this server alone, tries that it can be written, and lays its cells over the tables, which are
  * zero. Answers 0 after a line on standard error. */
 int image_open(struct image *i, const char *path, struct table tables[TABLES]);
-/* Writes what is not as it stands there; when this answers 1 it is on the disk. 0 after a line on standard error. */
-int image_keep(struct image *i, const struct table tables[TABLES]);
+/* Writes what of these parts is not as it stands there, and looks at no other; when this answers 1 it is on the disk. 0
+ * after a line on standard error. */
+int image_keep(struct image *i, const struct table tables[TABLES], const struct part parts[TABLES]);
 void image_close(struct image *i);
 #endif

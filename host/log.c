@@ -38,15 +38,16 @@ void log_event(struct voice *log, const char *from, const char *what) {
 }
 
 void log_frame(struct voice *log, const char *from, const uint8_t *frame, size_t len, struct dalonjang_result result,
-    struct written written, const uint8_t *reply) {
+    const uint8_t *reply) {
+    const char *written = table_name[result.table == DALONJANG_COILS ? COILS : HOLDINGS];
     struct text t;
     if (log == NULL) return;
     put_head(&t, from);
     put_hex(&t, frame, len);
     put(&t, " %s", outcome_name[result.outcome]);
     if (result.code != 0) put(&t, " %u", result.code);
-    if (written.count > 0) put(&t, ", wrote %s %zu", table_name[written.table], written.first);
-    if (written.count > 1) put(&t, " to %zu", written.first + written.count - 1);
+    if (result.count > 0) put(&t, ", wrote %s %u", written, result.first);
+    if (result.count > 1) put(&t, " to %u", result.first + result.count - 1u);
     if (result.length > 0) {
         put(&t, ", reply ");
         put_hex(&t, reply, result.length);

@@ -7,14 +7,8 @@
 enum { OUTCOMES = 11 };
 extern const char *const outcome_name[OUTCOMES]; /* as document 01 names them */
 
-/* The cells that a frame wrote; a count of 0 is none. */
-struct written {
-    int table;
-    size_t first, count;
-};
-
 /* Nothing is written where `log` is NULL. */
 void log_event(struct voice *log, const char *from, const char *what);
 void log_frame(struct voice *log, const char *from, const uint8_t *frame, size_t len, struct dalonjang_result result,
-    struct written written, const uint8_t *reply);
+    const uint8_t *reply);
 #endif

@@ -54,7 +54,7 @@ static int open_log(struct host *h, const char *path) {
 static int fill_tables(struct station *s, const struct options *o) {
     if (o->image != NULL && !image_open(&s->image, o->image, s->table)) return 0;
     if (o->import != NULL && !tables_import(o->import, s->table)) return 0;
-    s->unsaved = o->import != NULL;
+    for (int t = 0; t < TABLES; t++) s->unsaved[t].to = o->import != NULL ? s->table[t].len : 0;
     return station_keep(s);
 }
 

@@ -16,36 +16,6 @@ int station_open(struct station *s, const struct options *o) {
     return 1;
 }
 
-struct request {
-    uint8_t unit, function;
-    size_t word[4]; /* those after them */
-};
-
-/* Of a frame that was served: it stands in the ten bytes from the unit on, however the frame travels. A body that is
- * shorter has no words. */
-static struct request request_of(const struct dalonjang_setup *ours, const uint8_t *frame, size_t len) {
-    uint8_t body[255] = {0};
-    size_t header = ours->transport == DALONJANG_TCP ? 6 : 0;
-    if (ours->transport == DALONJANG_ASCII)
-        dalonjang_parse_ascii_frame(frame, len, len, body, sizeof body, 0, ours->hex);
-    else if (len > header) memcpy(body, frame + header, len - header < sizeof body ? len - header : sizeof body);
-    struct request asked = {.unit = body[0], .function = body[1]};
-    for (size_t i = 0; i < 4; i++) asked.word[i] = (size_t)body[2 + 2 * i] << 8 | body[3 + 2 * i];
-    return asked;
-}
-
-static struct written written_by(struct request asked) {
-    switch (asked.function) {
-    case 5: return (struct written){COILS, asked.word[0], 1};
-    case 6: return (struct written){HOLDINGS, asked.word[0], 1};
-    case 15: return (struct written){COILS, asked.word[0], asked.word[1]};
-    case 16: return (struct written){HOLDINGS, asked.word[0], asked.word[1]};
-    case 22: return (struct written){HOLDINGS, asked.word[0], 1};
-    case 23: return (struct written){HOLDINGS, asked.word[2], asked.word[3]}; /* after the cells that it reads */
-    default: return (struct written){0, 0, 0};
-    }
-}
-
 /* Some clients ask unit 0 or 255 over TCP unless they are told otherwise, and would wait in vain. */
 static void hint(struct station *s, const char *from, uint8_t asked) {
     if ((asked != 0 && asked != 255) || s->hinted[asked]) return;
@@ -64,20 +34,23 @@ static void hint_lower_case(struct station *s, const char *from, const uint8_t *
     complain("%s sends digits in lower case and gets no reply (--hex lenient would serve it)", from);
 }
 
+static void widen(struct part *part, size_t from, size_t to) {
+    if (part->to == 0 || from < part->from) part->from = from;
+    if (to > part->to) part->to = to;
+}
+
 /* What a frame leaves behind besides its reply: counts, cells to be saved, a hint, a line in the log. */
 static struct dalonjang_result noted(struct station *s, const char *from, const uint8_t *frame, size_t len,
     uint8_t *reply, struct dalonjang_result r) {
     uint8_t transport = s->unit.setup.transport;
-    struct written written = {0, 0, 0};
-    struct request asked = request_of(&s->unit.setup, frame, len);
-    int done = r.outcome == DALONJANG_ANSWERED || r.outcome == DALONJANG_BROADCAST_DONE;
-    if (done) written = written_by(asked);
+    size_t first = r.first, end = first + r.count;
     if (transport == DALONJANG_TCP && (r.outcome == DALONJANG_FOREIGN || r.outcome == DALONJANG_BROADCAST_IGNORED))
-        hint(s, from, asked.unit);
+        hint(s, from, frame[6]); /* the unit, behind the header */
     if (transport == DALONJANG_ASCII && r.outcome == DALONJANG_FRAME_BROKEN) hint_lower_case(s, from, frame, len);
     s->served[r.outcome]++;
-    s->unsaved |= done && (asked.function < 1 || asked.function > 4);
-    log_frame(s->log, from, frame, len, r, written, reply);
+    if (r.table == DALONJANG_COILS) widen(&s->unsaved[COILS], first / 8, (end + 7) / 8);
+    if (r.table == DALONJANG_HOLDINGS) widen(&s->unsaved[HOLDINGS], 2 * first, 2 * end);
+    log_frame(s->log, from, frame, len, r, reply);
     return r;
 }
 
@@ -96,7 +69,7 @@ struct dalonjang_result station_quiet(struct station *s, const char *from, uint8
 }
 
 int station_keep(struct station *s) {
-    if (s->image.db != NULL && s->unsaved && !image_keep(&s->image, s->table)) return 0;
-    s->unsaved = 0;
+    if (s->image.db != NULL && !image_keep(&s->image, s->table, s->unsaved)) return 0;
+    memset(s->unsaved, 0, sizeof s->unsaved);
     return 1;
 }

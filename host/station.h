@@ -12,8 +12,8 @@ struct station {
     struct dalonjang_unit unit; /* over these tables; its transport is that of each frame */
     struct voice *log;  /* or NULL */
     struct image image; /* whose database is NULL where there is none */
-    int unsaved;        /* a frame was served since the image was saved that may have changed cells */
-    int hinted[256];    /* of these unit numbers it was said that nobody answers them */
+    struct part unsaved[TABLES]; /* what was written since the image was saved */
+    int hinted[256]; /* of these unit numbers it was said that nobody answers them */
     int hinted_lower_case;
     unsigned long served[OUTCOMES];
 };

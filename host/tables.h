@@ -13,6 +13,11 @@ struct table {
     size_t len, cells;
 };
 
+/* Bytes of a table, up to the one before `to`; none where that is 0. */
+struct part {
+    size_t from, to;
+};
+
 /* Every cell zero. Answers 0 where there is no memory. */
 int tables_make(struct table tables[TABLES], const size_t cells[TABLES]);
 

@@ -12,8 +12,8 @@
  *   The calls cannot see an overlap and do not refuse it.
  * State. There is none: no allocation, no static data, no input or output. Every call is reentrant and may run in any
  *   thread or interrupt, as long as nobody else uses the lent buffers meanwhile.
- * Stack. Leave 1 KiB for a call, and 2 for one that asks. dalonjang_drive takes the most: up to 950 bytes on cortex-m0,
- *   900 on cortex-m3, 900 on cortex-m4, 750 on armv7, 800 on x86_64, 750 on aarch64; of those that ask
+ * Stack. Leave 1.25 KiB for a call, and 2 for one that asks. dalonjang_drive takes the most: up to 1000 bytes on
+ *   cortex-m0, 900 on cortex-m3, 900 on cortex-m4, 800 on armv7, 800 on x86_64, 700 on aarch64; of those that ask
  *   dalonjang_generate_set: up to 1650 bytes on cortex-m0, 1550 on cortex-m3, 1550 on cortex-m4, 1300 on armv7, 1300 on
  *   x86_64, 1250 on aarch64; arguments that lie on the stack (at most 104) come on top. No recursion.
  * Interrupts. A call may be interrupted, and may be made in an interrupt that keeps what any C function may change. On
@@ -37,7 +37,7 @@
  *
  *     struct dalonjang_result r = dalonjang_serve(&gauge, frame, n, reply, sizeof reply);
  *     if (r.length > 0) send(reply, r.length);                     // the reply, or the exception to be sent back
- *     if (r.outcome == DALONJANG_ANSWERED || r.outcome == DALONJANG_BROADCAST_DONE) redraw(coils, holdings);
+ *     if (r.table == DALONJANG_HOLDINGS) redraw(holdings, r.first, r.count); // the cells that were written
  */
 #ifndef DALONJANG_H
 #define DALONJANG_H
@@ -104,10 +104,23 @@ enum dalonjang_code {
     DALONJANG_ILLEGAL_DATA_VALUE = 3    /* a count, byte count or coil value outside the Modbus document's limits */
 };
 
+/* A table that requests write, by the number of the function that reads it. */
+enum dalonjang_table {
+    DALONJANG_NO_TABLE = 0, /* no cell was written */
+    DALONJANG_COILS = 1,
+    DALONJANG_HOLDINGS = 3
+};
+
+/* What became of a request, and the cells that it wrote: `count` of them in `table`, from `first` on. A cell outside
+ * these is the same before and after the call. Of function 23 they are what was written, not what was read. All three
+ * are 0 after a read, and with every other outcome than ANSWERED and BROADCAST_DONE. */
 struct dalonjang_result {
     size_t length;   /* bytes of reply to be sent; 0 unless outcome is ANSWERED or EXCEPTION */
     uint8_t outcome; /* enum dalonjang_outcome */
     uint8_t code;    /* enum dalonjang_code; 0 unless outcome is EXCEPTION or BROADCAST_IGNORED */
+    uint8_t table;   /* enum dalonjang_table */
+    uint16_t first;  /* the first cell written */
+    uint16_t count;  /* how many, 1 to 1968 coils or 1 to 123 holdings; 0 where none was */
 };
 
 /* What a unit is, in numbers. What an initializer does not name is zero: RTU, unit 0, strict, a table without cells. */
@@ -145,8 +158,9 @@ struct dalonjang_setup {
  *                length 0 the whole buffer is as lent.
  *   coils, holdings
  *                ANSWERED and BROADCAST_DONE of functions 5, 6, 15, 16, 22 and 23 store exactly the cells that the
- *                request names to be written. Every other cell, and the spare bits and bytes after the last cell,
- *                stay; after every other outcome the whole table is as lent.
+ *                request names to be written, and the result names these, also where they held the same values before.
+ *                Every other cell, and the spare bits and bytes after the last cell, stay; where the result names no
+ *                table both are as lent.
  *   list, discretes, inputs, frame
  *                never written. */
 struct dalonjang_result dalonjang_drive(struct dalonjang_setup setup, const uint8_t *list, size_t list_len,
@@ -213,10 +227,11 @@ struct dalonjang_answer dalonjang_offer(uint8_t *collector, size_t collector_len
  * interrupt off, or use two collectors in turn: the interrupt offers to one while the other is served.
  *
  * NOTHING_HELD   no byte was held: nothing is done, every buffer is as lent, whatever the setup and the room. A
- *                collector too short holds nothing, nor does one with a count above 257, which no call leaves.
+ *                collector too short holds nothing, nor does one with a count above 257, which no call leaves. No table
+ *                is named.
  * BAD_SETUP      for a transport other than DALONJANG_RTU too.
  * all others     as dalonjang_drive of all the bytes that were offered since the line was quiet before, in a row, in
- *                whatever groups they came: outcome, code, reply and tables. Too many bytes are FRAME_BROKEN.
+ *                whatever groups they came: the whole result, reply and tables. Too many bytes are FRAME_BROKEN.
  * Every outcome but NOTHING_HELD empties the collector, refusals included: its first two bytes are 0, and the rest
  * stays. */
 struct dalonjang_result dalonjang_quiet(struct dalonjang_setup setup, const uint8_t *list, size_t list_len,

@@ -1,22 +1,23 @@
 /* check_drive N: makes the calls of dalonjang_drive recorded on standard input (the format is in
- * vectors/src/drive/record.rs) and compares outcome, code, length and every lent byte with what is expected. Each
- * buffer stands against a page that cannot be touched.
+ * vectors/src/drive/record.rs) and compares the whole result and every lent byte with what is expected. Each buffer
+ * stands against a page that cannot be touched.
  * Status: 0 all equal and at least N calls, 1 a difference, 2 a short or malformed stream.
- * Built with -DFAULT=1 to 7 or 10 to 14 the library's answer is made slightly wrong (../tests/asked.h), to show that it
- * is seen. */
+ * Built with -DFAULT=1 to 7, 10 to 14 or 16 to 18 the library's answer is made slightly wrong (../tests/asked.h), to
+ * show that it is seen. */
 #include "../tests/asked.h"
 #include "../tests/fence.h"
 #include "stream.h"
 
-enum { LIST = TABLES, FRAME, REPLY, BUFFERS, HEAD = 46, OUTCOMES = 9 };
+enum { LIST = TABLES, FRAME, REPLY, BUFFERS, HEAD = 51, OUTCOMES = 9 };
 
 static const char *const outcome_name[OUTCOMES] = {"answered", "broadcast done", "exception", "broadcast ignored",
     "foreign", "frame broken", "frame check", "wrong length", "bad function"};
 static const char *const buffer_name[BUFFERS] = {"coils", "discretes", "holdings", "inputs", "list", "frame", "reply"};
 
 static struct record {
-    uint8_t transport, unit, hex, otherwise, outcome, code; /* otherwise: than the crate */
-    size_t len[BUFFERS], cells[TABLES], reply_len;
+    uint8_t transport, unit, hex, otherwise; /* otherwise: than the crate */
+    struct dalonjang_result told;
+    size_t len[BUFFERS], cells[TABLES];
     uint8_t before[BUFFERS][ROOM], after[BUFFERS][ROOM];
 } record;
 static unsigned long number; /* of the record, from 0 */
@@ -26,12 +27,12 @@ static int got_bytes(uint8_t *bytes, size_t len) { return len <= ROOM && fread(b
 /* The rest of a record, whose head this is. */
 static int rest_of(const uint8_t *head) {
     struct record *r = &record;
-    r->transport = head[0], r->unit = head[1], r->otherwise = head[3], r->outcome = head[4], r->code = head[5];
-    r->hex = head[45];
+    r->transport = head[0], r->unit = head[1], r->hex = head[45], r->otherwise = head[3];
+    r->told = (struct dalonjang_result){.length = big_endian(head + 10, 2), .outcome = head[4], .code = head[5],
+        .table = head[46], .first = (uint16_t)word(head + 47), .count = (uint16_t)word(head + 49)};
     r->len[LIST] = head[2];
     r->len[FRAME] = big_endian(head + 6, 2);
     r->len[REPLY] = big_endian(head + 8, 2);
-    r->reply_len = big_endian(head + 10, 2);
     for (int t = 0; t < TABLES; t++) {
         r->cells[t] = big_endian(head + 13 + 8 * t, 4);
         r->len[t] = big_endian(head + 17 + 8 * t, 4);
@@ -41,8 +42,8 @@ static int rest_of(const uint8_t *head) {
     for (int t = 0; t < TABLES; t++)
         if (!got_bytes(r->before[t], r->len[t])) return 0;
     for (int i = 0; i < BUFFERS; i++) memcpy(r->after[i], r->before[i], r->len[i]);
-    return r->outcome < OUTCOMES && r->reply_len <= r->len[REPLY]
-        && got_bytes(r->after[REPLY], r->reply_len)
+    return r->told.outcome < OUTCOMES && r->told.length <= r->len[REPLY]
+        && got_bytes(r->after[REPLY], r->told.length)
         && (!(head[12] & 1) || got_bytes(r->after[COILS], r->len[COILS]))
         && (!(head[12] & 2) || got_bytes(r->after[HOLDINGS], r->len[HOLDINGS]));
 }
@@ -62,12 +63,12 @@ static void print_call(const char *what) {
     printf("%s at record %lu: transport %u, unit %u, switch %u, cells %zu %zu %zu %zu", what, number, r->transport,
            r->unit, r->hex, r->cells[0], r->cells[1], r->cells[2], r->cells[3]);
     for (int i = 0; i < REPLY; i++) print_bytes(buffer_name[i], r->before[i], r->len[i]);
-    printf("\n  expected: outcome %u, code %u, reply of %zu bytes (%s)", r->outcome, r->code, r->reply_len,
-           r->otherwise == 0 ? "the crate's" : "document 01's, not the crate's");
+    print_result("expected", r->told);
+    printf(" (%s)", r->otherwise == 0 ? "the crate's" : "document 01's, not the crate's");
 }
 
 static int equal(const struct slice *lent, struct dalonjang_result r) {
-    if (r.outcome != record.outcome || r.code != record.code || r.length != record.reply_len) return 0;
+    if (!same_result(r, record.told)) return 0;
     for (int i = 0; i < BUFFERS; i++)
         if (memcmp(lent[i].bytes, record.after[i], record.len[i]) != 0
             || !margin_untouched(lent[i].bytes, record.len[i], number)) return 0;
@@ -98,7 +99,7 @@ int main(int argc, char **argv) {
         struct dalonjang_result r = drive(&a);
         if (!equal(lent, r)) {
             print_call("different");
-            printf("\n  given: outcome %u, code %u, length %zu", r.outcome, r.code, r.length);
+            print_result("given", r);
             for (int i = 0; i < BUFFERS; i++)
                 if (memcmp(lent[i].bytes, record.after[i], record.len[i]) != 0) {
                     printf("\n%s:", buffer_name[i]);

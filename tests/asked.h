@@ -1,9 +1,10 @@
 /* One call of dalonjang_drive as a record, for the programs that test it, and the same by the collector. Built with
- * -DFAULT=1 to 7 or 10 to 15 the driver's answer is made slightly wrong on its way there or back, and the collector's
- * with 8 and 9, to show that a program sees it. */
+ * -DFAULT=1 to 7 or 10 to 18 the driver's answer is made slightly wrong on its way there or back, and the
+ * collector's with 8, 9 and 19, to show that a program sees it. */
 #ifndef ASKED_H
 #define ASKED_H
 #include "../include/dalonjang.h"
+#include <stdio.h>
 #include <string.h>
 
 #ifndef FAULT
@@ -40,11 +41,27 @@ int model_inside(const uint8_t *body, size_t cells);
 
 static inline size_t word(const uint8_t *bytes) { return (size_t)bytes[0] << 8 | bytes[1]; }
 
+/* No reply, and no cell written. */
+static inline struct dalonjang_result silent(int outcome, int code) {
+    return (struct dalonjang_result){.outcome = (uint8_t)outcome, .code = (uint8_t)code};
+}
+
+static inline int same_result(struct dalonjang_result a, struct dalonjang_result b) {
+    return a.length == b.length && a.outcome == b.outcome && a.code == b.code && a.table == b.table
+        && a.first == b.first && a.count == b.count;
+}
+
+static inline void print_result(const char *whose, struct dalonjang_result r) {
+    printf("\n  %s: outcome %u, code %u, length %zu, table %u, first %u, count %u", whose, r.outcome, r.code, r.length,
+           r.table, r.first, r.count);
+}
+
 /* The reply of a served write, on TCP. */
-static inline struct dalonjang_result echoed(const struct asked *a) {
+static inline struct dalonjang_result echoed(const struct asked *a, struct dalonjang_result r) {
     for (size_t i = 0; i < 12; i++) a->reply.bytes[i] = a->frame.bytes[i];
     a->reply.bytes[5] = 6;
-    return (struct dalonjang_result){12, DALONJANG_ANSWERED, 0};
+    r.length = 12, r.outcome = DALONJANG_ANSWERED, r.code = 0;
+    return r;
 }
 
 /* The holdings that a frame of function 23 reads, as they are before it, on TCP. */
@@ -86,31 +103,32 @@ static inline struct dalonjang_result spoilt(const struct asked *a, struct dalon
         break;
     case 2: /* 65,535 + 1 wraps to 0, which is within the table */
         if (r.outcome == DALONJANG_EXCEPTION && r.code == DALONJANG_ILLEGAL_DATA_ADDRESS && start == 65535
-            && (count == 1 || function == 5 || function == 6)) r = echoed(a);
+            && (count == 1 || function == 5 || function == 6)) r = echoed(a, r);
         break;
     case 3: /* an unknown function is answered before the check, as in the crate */
         if (r.outcome == DALONJANG_FRAME_CHECK && body[0] == a->unit && function > 6 && function < 15) {
             reply[0] = a->unit, reply[1] = (uint8_t)(function + 128), reply[2] = DALONJANG_ILLEGAL_FUNCTION;
             uint16_t crc = model_crc(reply, 3);
             reply[3] = (uint8_t)crc, reply[4] = (uint8_t)(crc >> 8);
-            r = (struct dalonjang_result){5, DALONJANG_EXCEPTION, DALONJANG_ILLEGAL_FUNCTION};
+            r = silent(DALONJANG_EXCEPTION, DALONJANG_ILLEGAL_FUNCTION);
+            r.length = 5;
         }
         break;
     case 4: /* function 16 stores what its byte count says, whatever its count, as in the crate */
         if (r.outcome == DALONJANG_EXCEPTION && r.code == DALONJANG_ILLEGAL_DATA_VALUE && function == 16 && count >= 1
             && count <= 123 && body[6] % 2 == 0 && start + body[6] / 2u <= a->cells[HOLDINGS]) {
             for (size_t i = 0; i < body[6]; i++) a->table[HOLDINGS].bytes[2 * start + i] = body[7 + i];
-            r = echoed(a);
+            r = echoed(a, r);
         }
         break;
     case 5: /* the reply is one byte longer */
         if (r.outcome == DALONJANG_ANSWERED) r.length++;
         break;
     case 6: /* a broadcast is answered */
-        if (r.outcome == DALONJANG_BROADCAST_DONE) r = echoed(a);
+        if (r.outcome == DALONJANG_BROADCAST_DONE) r = echoed(a, r);
         break;
     case 7: /* a TCP frame above 256 bytes is broken, as in the crate */
-        if (a->frame.len > 256) r = (struct dalonjang_result){0, DALONJANG_FRAME_BROKEN, 0};
+        if (a->frame.len > 256) r = silent(DALONJANG_FRAME_BROKEN, 0);
         break;
     case 10: /* function 23 reads before it writes */
         if (r.outcome == DALONJANG_ANSWERED && function == 23) memcpy(reply + 9, old, 2 * count);
@@ -126,6 +144,16 @@ static inline struct dalonjang_result spoilt(const struct asked *a, struct dalon
         if (r.outcome == DALONJANG_EXCEPTION && r.code == DALONJANG_ILLEGAL_DATA_ADDRESS && function == 23
             && word(body + 6) + word(body + 8) <= a->cells[HOLDINGS])
             memcpy(a->table[HOLDINGS].bytes + 2 * word(body + 6), body + 11, body[10]);
+        break;
+    case 16: /* function 23 names what it reads */
+        if (r.outcome == DALONJANG_ANSWERED && function == 23) r.first = (uint16_t)start, r.count = (uint16_t)count;
+        break;
+    case 17: /* the first cell that is named is off by one */
+        if (r.table != DALONJANG_NO_TABLE) r.first++;
+        break;
+    case 18: /* a write that is refused names its cells all the same, as `changes` of the crate does */
+        if (r.outcome == DALONJANG_EXCEPTION && function == 16)
+            r.table = DALONJANG_HOLDINGS, r.first = (uint16_t)start, r.count = (uint16_t)count;
         break;
     default: break;
     }
@@ -164,6 +192,7 @@ static inline struct dalonjang_result quiet(const struct asked *a, struct slice 
     struct dalonjang_result r =
         dalonjang_serve_quiet(&unit, collector.bytes, collector.len, a->reply.bytes, a->reply.len);
     if (FAULT == 9 && r.outcome == DALONJANG_BAD_SETUP) collector.bytes[1] = low; /* a refusal does not empty */
+    if (FAULT == 19) r.table = DALONJANG_NO_TABLE, r.first = 0, r.count = 0; /* what was written is not passed on */
     return r;
 }
 #endif

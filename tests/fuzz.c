@@ -3,8 +3,9 @@
  * to a collector and closed by a quiet line, which must come to the same on RTU, and to BadSetup elsewhere. After each
  * call it is checked
  *   - that nothing outside the lent buffers was touched: every buffer stands against a page that cannot be,
- *   - what the header promises of every call, without asking what the right answer is,
- *   - that outcome, code, reply and tables are those of the model, document 01's driver written plainly.
+ *   - what the header promises of every call, without asking what the right answer is: above all that every bit and byte
+ *     of a table outside the cells that the result names is as it was,
+ *   - that the whole result, reply and tables are those of the model, document 01's driver written plainly.
  * Status: 0 all right and, from 100,000 calls on, every outcome came up and every function was served, also in lower
  * case; 1 a difference; 2 wrong arguments. */
 #include "asked.h"
@@ -162,7 +163,7 @@ static void random_frame(void) {
 static void different(const char *what, const struct dalonjang_result *r) {
     printf("different at call %lu (seed %lu): %s\n  transport %u, unit %u, switch %u, cells %zu %zu %zu %zu", number,
            seed, what, call.transport, call.unit, call.hex, call.cells[0], call.cells[1], call.cells[2], call.cells[3]);
-    if (r != NULL) printf("; outcome %u, code %u, length %zu", r->outcome, r->code, r->length);
+    if (r != NULL) print_result("given", *r);
     for (int i = 0; i < BUFFERS; i++) {
         print_bytes(buffer_name[i], before[i], buffer(&call, i)->len);
         if (r != NULL) print_bytes("  after", buffer(&call, i)->bytes, buffer(&call, i)->len);
@@ -188,14 +189,22 @@ static uint8_t request_byte(size_t i) {
     return (uint8_t)strtoul(memcpy(pair, before[FRAME] + 1 + 2 * i, 2), NULL, 16);
 }
 
-/* What it writes: a table, -1 for none, and the bits of it that may change. */
-static int written(size_t *from, size_t *to) {
-    uint8_t function = request_byte(1), b[4]; /* first and count */
-    for (size_t i = 0; i < 4; i++) b[i] = request_byte((function == 23 ? 6 : 2) + i);
-    size_t width = function == 5 || function == 15 ? 1 : 16, count = function <= 6 || function == 22 ? 1 : word(b + 2);
-    *from = word(b) * width;
-    *to = *from + count * width;
-    return function <= 4 ? -1 : width == 1 ? COILS : HOLDINGS;
+/* By the result alone: the table that it names, -1 for none, and the bits of it that may have changed. */
+static int named(struct dalonjang_result r, size_t *from, size_t *to) {
+    size_t width = r.table == DALONJANG_COILS ? 1 : 16;
+    *from = r.first * width;
+    *to = *from + r.count * width;
+    return r.table == DALONJANG_NO_TABLE ? -1 : r.table == DALONJANG_COILS ? COILS : HOLDINGS;
+}
+
+/* Whether a result may name these cells: none, or after a request that was served so many as one can write, all of them
+ * in the table. */
+static int may_name(struct dalonjang_result r) {
+    if (r.table == DALONJANG_NO_TABLE) return r.first == 0 && r.count == 0;
+    if (r.table != DALONJANG_COILS && r.table != DALONJANG_HOLDINGS) return 0;
+    size_t most = r.table == DALONJANG_COILS ? 1968 : 123;
+    return r.outcome <= DALONJANG_BROADCAST_DONE && r.count >= 1 && r.count <= most
+        && (size_t)r.first + r.count <= call.cells[r.table == DALONJANG_COILS ? COILS : HOLDINGS];
 }
 
 /* No bit of this table changed but those from `from` on and before `to`; in registers the bytes are whole. */
@@ -211,8 +220,7 @@ static int kept(int table, size_t from, size_t to) {
 
 /* What the header promises of every call. */
 static const char *broken_promise(struct dalonjang_result r) {
-    int done = r.outcome == DALONJANG_ANSWERED || r.outcome == DALONJANG_BROADCAST_DONE;
-    int replied = r.outcome == DALONJANG_ANSWERED || r.outcome == DALONJANG_EXCEPTION, table = -1;
+    int replied = r.outcome == DALONJANG_ANSWERED || r.outcome == DALONJANG_EXCEPTION;
     int coded = r.outcome == DALONJANG_EXCEPTION || r.outcome == DALONJANG_BROADCAST_IGNORED;
     size_t from = 0, to = 0;
     for (int i = 0; i < BUFFERS; i++)
@@ -224,11 +232,12 @@ static const char *broken_promise(struct dalonjang_result r) {
     if (memcmp(call.reply.bytes + r.length, before[REPLY] + r.length, call.reply.len - r.length) != 0)
         return "reply bytes after its length changed";
     if (has_small(call.reply.bytes, r.length)) return "a reply that is not in capitals";
-    if (done) table = written(&from, &to);
+    if (!may_name(r)) return "cells are named that cannot be";
+    int table = named(r, &from, &to);
     for (int i = 0; i < REPLY; i++)
         if (i != table && memcmp(buffer(&call, i)->bytes, before[i], buffer(&call, i)->len) != 0)
             return "a buffer changed that must not";
-    if (table >= 0 && !kept(table, from, to)) return "a cell, spare bit or spare byte outside the range changed";
+    if (table >= 0 && !kept(table, from, to)) return "a cell, spare bit or spare byte outside the named range changed";
     return NULL;
 }
 
@@ -238,8 +247,9 @@ static void check(struct dalonjang_result r) {
     struct asked a = call;
     for (int i = 0; i < BUFFERS; i++) buffer(&a, i)->bytes = memcpy(expected[i], before[i], buffer(&a, i)->len);
     struct dalonjang_result e = model_drive(&a);
-    if (r.outcome != e.outcome || r.code != e.code || r.length != e.length) {
-        printf("model: outcome %u, code %u, length %zu\n", e.outcome, e.code, e.length);
+    if (!same_result(r, e)) {
+        print_result("model", e);
+        puts("");
         different("not the model's answer", &r);
     }
     for (int i = 0; i < BUFFERS; i++)
@@ -294,13 +304,13 @@ static void collect(struct dalonjang_result r) {
         memcpy(expected[i], held && call.transport == DALONJANG_RTU ? s->bytes : before[i], s->len);
         memcpy(s->bytes, before[i], s->len);
     }
-    if (call.transport != DALONJANG_RTU) r = (struct dalonjang_result){0, DALONJANG_BAD_SETUP, 0};
-    if (!held) r = (struct dalonjang_result){0, DALONJANG_NOTHING_HELD, 0};
+    if (call.transport != DALONJANG_RTU) r = silent(DALONJANG_BAD_SETUP, 0);
+    if (!held) r = silent(DALONJANG_NOTHING_HELD, 0);
     const char *wrong = offer_frame();
     if (wrong != NULL) different(wrong, NULL);
     uint8_t high = collector.len > 0 ? collector.bytes[0] : 0, low = collector.len > 1 ? collector.bytes[1] : 0;
     struct dalonjang_result c = quiet(&call, collector);
-    if (c.outcome != r.outcome || c.code != r.code || c.length != r.length) different("not so by the collector", &c);
+    if (!same_result(c, r)) different("not so by the collector", &c);
     for (int i = 0; i < BUFFERS; i++)
         if (memcmp(expected[i], buffer(&call, i)->bytes, buffer(&call, i)->len) != 0
             || !margin_untouched(buffer(&call, i)->bytes, buffer(&call, i)->len, number))

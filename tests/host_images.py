@@ -43,12 +43,15 @@ def test_image_comes_back(program):
             client.ask(asked(15, 30, 4, b"\x0b"))
             client.ask(exchanged(0, 1, 8, words(0x12, 52)))
             client.ask(masked(8, 0xF2, 0x25))
+            for last in (127, 895):  # the last of a block of the image, each alone in its round
+                client.ask(asked(6, last, last))
         same(os.listdir(room), ["image"], "the files beside the image after the end")
         text = exported(program, "--image", path)
         check("# written by --export" in text[1], "the text does not say who wrote it")
         same(text[:1] + text[2:], [
             "dalonjang tables", "coils 16 " + " ".join("0" * 14 + "11"), "coils 32 " + " ".join("01" + "0" * 14),
-            "holdings 0 0 0 0 0 0 1 2 65535 23 52 0 0 0 0 0 0", "end"], "the text")
+            "holdings 0 0 0 0 0 0 1 2 65535 23 52 0 0 0 0 0 0", "holdings 112 " + "0 " * 15 + "127",
+            "holdings 880 " + "0 " * 15 + "895", "end"], "the text")
         with Server(program, "--image", path) as server, Client(server.port) as client:
             same(values_of(client.ask(asked(3, 4, 7))), [0, 1, 2, 65535, 23, 52, 0], "the registers that come back")
             same(client.ask(asked(1, 28, 8)), bytes([1, 1, 1, 0b00101100]), "the coils that come back")
@@ -215,6 +218,10 @@ def test_cost_of_a_write(program):
                 before = written(server)
                 client.ask(asked(3, 0, 100))
                 check(written(server) - before < 1500, "a read writes the image")
+                client.ask(asked(6, 5, 7))
+                before = written(server)
+                client.ask(asked(6, 5, 7))
+                check(written(server) - before < 1500, "a write of the value that is there writes the image")
     check(costs[1] < 20000, f"a write of one register writes {costs[1]} bytes")
 
 

@@ -1,7 +1,7 @@
 /* kat: every call of the header, with answers that stand in documents 01 and 02: the cases a to l, both sides of every
- * number, the order of the faults, the refusals, the collector's cases. Outcome, code, length and every lent byte are compared. Nothing expected is
- * worked out here; only header, CRC and LRC are put around a request and its reply, so that a row holds on all
- * transports.
+ * number, the order of the faults, the refusals, the collector's cases. The whole result and every lent byte are compared.
+ * Nothing expected is worked out here; only header, CRC and LRC are put around a request and its reply, so that a row
+ * holds on all transports.
  * `kat list` makes no call: it writes the driver's cases to standard output, as crates/cases/stdin holds them.
  * Status: 0 all as the documents say, 1 a difference, 2 called otherwise. */
 #include "kat.h"

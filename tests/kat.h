@@ -31,7 +31,8 @@ struct setup {
 
 /* on: the transports, r RTU, a ASCII, t TCP; s ASCII asked in small letters, m with every other letter small. There
  * `ask` and `reply` go from the unit byte on and get header and check; under R, A and T they are the whole frames.
- * Afterwards `table` reads `now` from byte `at` on; all else stays. */
+ * Afterwards `table` reads `now` from byte `at` on; all else stays. The result names `count` cells of that table from
+ * `first` on, or none. */
 struct row {
     const char *name, *on;
     const struct setup *setup;
@@ -41,7 +42,13 @@ struct row {
     int table;
     size_t at;
     const char *now;
+    unsigned first, count;
 };
+
+/* The number by which a result names a table in which so many cells were written. */
+static inline uint8_t named(int table, size_t count) {
+    return count == 0 ? DALONJANG_NO_TABLE : table == COILS ? DALONJANG_COILS : DALONJANG_HOLDINGS;
+}
 
 /* Each of the driver's cases, with its call and the reply that must come: made (kat_drive.c), or written as a record of
  * the program `cases` (kat_list.c). */

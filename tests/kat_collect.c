@@ -1,10 +1,11 @@
 /* The collector's cases: bytes are offered, and the line falls quiet. The collector and the groups of bytes stand
- * against pages that cannot be touched. Outcome, code, length and every lent byte are compared. */
+ * against pages that cannot be touched. The whole result and every lent byte are compared. */
 #include "fence.h"
 #include "kat.h"
 
 /* Bytes offered: the answer, a kind and how many are held. Without bytes the line falls quiet, on a transport and with
- * room for a reply: the outcome and its code, the reply, and the holdings then; and with a switch for lower case. */
+ * room for a reply: the outcome and its code, the reply, the holdings then, and which of them are named; and with a
+ * switch for lower case. */
 struct event {
     const char *bytes;
     int kind;
@@ -13,12 +14,15 @@ struct event {
     size_t room;
     int outcome, code;
     const char *reply, *holdings;
+    uint16_t first, count;
     uint8_t hex;
 };
 
-#define BRINGS(bytes, kind, held) {bytes, kind, held, 0, 0, 0, 0, "", "", 0}
-#define FALLS(on, room, outcome, code, reply, holdings) {NULL, 0, 0, on, room, outcome, code, reply, holdings, 0}
-#define SWITCHED(hex, outcome, reply, holdings) {NULL, 0, 0, 0, 260, outcome, 0, reply, holdings, hex}
+#define BRINGS(bytes, kind, held) {bytes, kind, held, 0, 0, 0, 0, "", "", 0, 0, 0}
+#define FALLS(on, room, outcome, code, reply, holdings) {NULL, 0, 0, on, room, outcome, code, reply, holdings, 0, 0, 0}
+#define SWITCHED(hex, outcome) {NULL, 0, 0, 0, 260, outcome, 0, "", BEFORE, 0, 0, hex}
+#define WRITES(hex, room, outcome, reply) {NULL, 0, 0, 0, room, outcome, 0, reply, AFTER, 2, 1, hex}
+#define SERVES(room) WRITES(0, room, 0, GOOD)
 #define BEFORE "0102 0304 0000 FFFF"
 #define AFTER "0102 0304 1234 FFFF"
 #define GOOD "01 06 0002 1234 257D"
@@ -30,34 +34,36 @@ static const struct {
     int count;
 } cases[] = {
     {"in three groups", "00*259", {BRINGS("01", 0, 1), BRINGS("06 0002 1234 25", 0, 7), BRINGS("7D", 0, 8),
-        FALLS(0, 260, 0, 0, GOOD, AFTER), FALLS(0, 260, 13, 0, "", AFTER)}, 5},
-    {"with empty groups", "00*259", {BRINGS("", 0, 0), BRINGS(GOOD, 0, 8), BRINGS("", 0, 8),
-        FALLS(0, 511, 0, 0, GOOD, AFTER)}, 4},
+        SERVES(260), FALLS(0, 260, 13, 0, "", AFTER)}, 5},
+    {"with empty groups", "00*259", {BRINGS("", 0, 0), BRINGS(GOOD, 0, 8), BRINGS("", 0, 8), SERVES(511)}, 4},
+    {"a broadcast", "00*259", {BRINGS("00 06 0002 1234 24AC", 0, 8), WRITES(0, 260, 1, "")}, 2},
+    {"a read", "00*259", {BRINGS("01 03 0000 0002 C40B", 0, 8),
+        FALLS(0, 260, 0, 0, "01 03 04 0102 0304 5B3C", BEFORE)}, 2},
     {"256 bytes", "00*259", {BRINGS(LONGEST, 0, 256), FALLS(0, 260, 2, 1, "01 87 01 8230", BEFORE)}, 2},
     {"257 bytes", "00*259", {BRINGS(LONGEST, 0, 256), BRINGS("00", 0, 257), FALLS(0, 260, 5, 0, "", BEFORE),
-        BRINGS(GOOD, 0, 8), FALLS(0, 260, 0, 0, GOOD, AFTER)}, 5},
+        BRINGS(GOOD, 0, 8), SERVES(260)}, 5},
     {"300 bytes", "00*259", {BRINGS("01*300", 0, 257), FALLS(0, 260, 5, 0, "", BEFORE), BRINGS(GOOD, 0, 8),
-        FALLS(0, 260, 0, 0, GOOD, AFTER)}, 4},
+        SERVES(260)}, 4},
     {"more after 257 bytes", "00*259", {BRINGS("01*257", 0, 257), BRINGS("02*40", 0, 257),
         FALLS(0, 259, 9, 0, "", BEFORE), FALLS(0, 260, 13, 0, "", BEFORE)}, 4},
     {"on TCP", "00*259", {BRINGS(GOOD, 0, 8), FALLS(2, 260, 10, 0, "", BEFORE), FALLS(0, 260, 13, 0, "", BEFORE)}, 3},
     {"on ASCII", "00*259", {BRINGS("':010300000002FA\r\n", 0, 17), FALLS(1, 511, 10, 0, "", BEFORE),
-        BRINGS(GOOD, 0, 8), FALLS(0, 260, 0, 0, GOOD, AFTER)}, 4},
+        BRINGS(GOOD, 0, 8), SERVES(260)}, 4},
     {"room 259", "00*259", {BRINGS(GOOD, 0, 8), FALLS(0, 259, 9, 0, "", BEFORE), FALLS(0, 260, 13, 0, "", BEFORE)}, 3},
     {"nothing held before all else", "00*259", {FALLS(9, 0, 13, 0, "", BEFORE)}, 1},
-    {"lenient", "00*259", {BRINGS(GOOD, 0, 8), SWITCHED(1, 0, GOOD, AFTER)}, 2},
-    {"switch 2", "00*259", {BRINGS(GOOD, 0, 8), SWITCHED(2, 10, "", BEFORE), SWITCHED(0, 13, "", BEFORE)}, 3},
-    {"nothing held before the switch", "00*259", {SWITCHED(2, 13, "", BEFORE)}, 1},
+    {"lenient", "00*259", {BRINGS(GOOD, 0, 8), WRITES(1, 260, 0, GOOD)}, 2},
+    {"switch 2", "00*259", {BRINGS(GOOD, 0, 8), SWITCHED(2, 10), SWITCHED(0, 13)}, 3},
+    {"nothing held before the switch", "00*259", {SWITCHED(2, 13)}, 1},
     {"a wrong check", "00*259", {BRINGS("01 06 0002 1234 257E", 0, 8), FALLS(0, 260, 6, 0, "", BEFORE)}, 2},
     {"three bytes", "00*259", {BRINGS("01 06 00", 0, 3), FALLS(0, 260, 5, 0, "", BEFORE)}, 2},
     {"a collector of 258 bytes", "0008 01 06 0002 1234 257D 00*248", {BRINGS("01", 21, 0),
         FALLS(0, 260, 13, 0, "", BEFORE)}, 2},
     {"no collector", "", {BRINGS("01", 21, 0), FALLS(0, 260, 13, 0, "", BEFORE)}, 2},
     {"a collector of 300 bytes", "00*2 5A*298", {BRINGS(GOOD, 0, 8), BRINGS("00*292", 0, 257),
-        FALLS(0, 260, 5, 0, "", BEFORE), BRINGS(GOOD, 0, 8), FALLS(0, 260, 0, 0, GOOD, AFTER)}, 5},
+        FALLS(0, 260, 5, 0, "", BEFORE), BRINGS(GOOD, 0, 8), SERVES(260)}, 5},
     {"a count of 257", "0101 00*257", {BRINGS("00", 0, 257), FALLS(0, 260, 5, 0, "", BEFORE)}, 2},
     {"a count of 258 holds nothing", "0102 00*257", {FALLS(0, 260, 13, 0, "", BEFORE), BRINGS(GOOD, 0, 8),
-        FALLS(0, 260, 0, 0, GOOD, AFTER)}, 3},
+        SERVES(260)}, 3},
 };
 
 static const char *running;
@@ -95,6 +101,8 @@ void collector_cases(void) {
                 for (size_t b = 0; b < sizeof reply; b++) reply[b] = as_lent(b);
                 struct dalonjang_result r = quiet(&a, collector);
                 if (r.outcome != e->outcome || r.code != e->code) different(running, "the outcome");
+                if (r.table != named(HOLDINGS, e->count) || r.first != e->first || r.count != e->count)
+                    different(running, "what is named");
                 size_t n = bytes_of(e->reply, text);
                 if (r.length != n || memcmp(reply, text, n) != 0) different(running, "the reply");
                 for (size_t b = n; b < sizeof reply; b++)

@@ -33,6 +33,8 @@ void call_case(const struct row *row, const struct asked *a, struct slice reply)
     if (r.outcome != row->outcome) different(row->name, "the outcome");
     if (r.code != row->code) different(row->name, "the code");
     if (r.length != reply.len) different(row->name, "the reply's length");
+    if (r.table != named(row->table, row->count)) different(row->name, "the table that is named");
+    if (r.first != row->first || r.count != row->count) different(row->name, "the range that is named");
     if (!equal(reply, a->reply.bytes)) different(row->name, "the reply");
     for (size_t i = reply.len; i < a->reply.len; i++)
         if (a->reply.bytes[i] != as_lent(i)) different(row->name, "a byte after the reply");

@@ -8,6 +8,7 @@ static const char *const head =
     "# edited by hand.\n"
     "# A record, numbers high byte first:\n"
     "#   transport (1 byte), unit (1), switch for lower case (1); expected: outcome (1), exception code (1)\n"
+    "#   expected: the cells written, as the result names them: table (1), first (2), count (2)\n"
     "#   length of the reply buffer (2)\n"
     "#   the table that changes (1: 0 coils, 1 discretes, 2 holdings, 3 inputs) and the byte from which on (4)\n"
     "#   for each table: length in bytes (4), cells (8), and the byte (1) that fills it behind its front\n"
@@ -37,6 +38,10 @@ void list_case(const struct row *row, const struct asked *a, struct slice reply)
     struct slice parts[4 + TABLES] = {a->list, a->frame, reply, now};
     printf("# %u: %s, transport %d\n%02X%02X%02X %02X%02X ", ++checks, row->name, a->transport, a->transport,
            a->unit, a->hex, (unsigned)row->outcome, (unsigned)row->code);
+    put_number(named(row->table, row->count), 1);
+    put_number(row->first, 2);
+    put_number(row->count, 2);
+    putchar(' ');
     put_number(a->reply.len, 2);
     printf(" %02X", (unsigned)row->table);
     put_number(row->at, 4);

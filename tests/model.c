@@ -1,5 +1,6 @@
-/* Document 01's driver, with document 02's functions 22 and 23 and its switch for lower case, written from the pages and
- * from nothing else: one bit or byte at a time, no cleverness. The fuzz compares the proved library with it. */
+/* Document 01's driver, with document 02's functions 22 and 23, its switch for lower case and the cells that a result
+ * names, written from the pages and from nothing else: one bit or byte at a time, no cleverness. The fuzz compares the
+ * proved library with it. */
 #include "asked.h"
 #include <string.h>
 
@@ -155,29 +156,44 @@ static size_t wrap(const struct asked *a, const uint8_t *body, size_t n) {
     return model_wrap(a->transport, a->frame.bytes, body, n, a->reply.bytes);
 }
 
+/* The cells that a served request writes, by the number of the function that reads their table. */
+static void name_cells(result *r, const uint8_t *b) {
+    const uint8_t *range = b[1] == 23 ? b + 6 : b + 2; /* 23 says first what it reads */
+    if (b[1] <= 4) return;
+    r->table = b[1] == 5 || b[1] == 15 ? 1 : 3;
+    r->first = (uint16_t)word(range);
+    r->count = b[1] == 15 || b[1] == 16 || b[1] == 23 ? (uint16_t)word(range + 2) : 1;
+}
+
 result model_drive(const struct asked *a) {
     uint8_t b[256], r[256];
     size_t n = 0;
-    if (a->transport > 2 || a->hex > 1) return (result){0, 10, 0};
+    if (a->transport > 2 || a->hex > 1) return silent(10, 0);
     for (int t = 0; t < TABLES; t++) {
         int bits = t == COILS || t == DISCRETES;
         if (a->cells[t] > 65536 || a->table[t].len < (bits ? (a->cells[t] + 7) / 8 : 2 * a->cells[t]))
-            return (result){0, 10, 0};
+            return silent(10, 0);
     }
-    if (a->reply.len < (a->transport == 1 ? 511 : 260)) return (result){0, 9, 0};
+    if (a->reply.len < (a->transport == 1 ? 511 : 260)) return silent(9, 0);
     int wrong = model_unwrap(a->transport, a->hex, a->frame.bytes, a->frame.len, b, &n);
-    if (wrong) return (result){0, (uint8_t)wrong, 0};
+    if (wrong) return silent(wrong, 0);
     int broadcast = a->list.len > 0 && memchr(a->list.bytes, b[0], a->list.len) != NULL;
-    if (!broadcast && b[0] != a->unit) return (result){0, 4, 0};
-    if (b[1] >= 128) return (result){0, 8, 0};
+    if (!broadcast && b[0] != a->unit) return silent(4, 0);
+    if (b[1] >= 128) return silent(8, 0);
     int code = 0, tab = table_of(b[1]);
     if (tab < 0) code = 1;
-    else if (broadcast && (b[1] <= 4 || b[1] == 23)) return (result){0, 3, 0};
-    else if (!model_length_right(b, n)) return (result){0, 7, 0};
+    else if (broadcast && (b[1] <= 4 || b[1] == 23)) return silent(3, 0);
+    else if (!model_length_right(b, n)) return silent(7, 0);
     else if (!model_value_right(b)) code = 3;
     else if (!model_inside(b, a->cells[tab])) code = 2;
-    if (code && broadcast) return (result){0, 3, (uint8_t)code};
-    if (code) return (result){wrap(a, (uint8_t[]){b[0], (uint8_t)(b[1] + 128), (uint8_t)code}, 3), 2, (uint8_t)code};
+    if (code && broadcast) return silent(3, code);
+    result given = silent(code ? 2 : broadcast ? 1 : 0, code);
+    if (code) {
+        given.length = wrap(a, (uint8_t[]){b[0], (uint8_t)(b[1] + 128), (uint8_t)code}, 3);
+        return given;
+    }
     n = serve(a, tab, b, r);
-    return broadcast ? (result){0, 1, 0} : (result){wrap(a, r, n), 0, 0};
+    name_cells(&given, b);
+    if (!broadcast) given.length = wrap(a, r, n);
+    return given;
 }

@@ -150,7 +150,7 @@ def test_installed(root):
         module = re.sub(r"\$\{(\w+)\}", lambda found: values[found[1]], module)
     flags = dict(re.findall(r"^(\w+): (.*)$", module, re.M))
     blocks = re.findall(r"```c\n(.*?)```", text(root, "README.md"), re.S)
-    same([len(block.splitlines()) for block in blocks], [10, 11], "the lines of the README's examples")
+    same([len(block.splitlines()) for block in blocks], [11, 11], "the lines of the README's examples")
     for name, block in zip(("example", "asking"), blocks):
         with tempfile.TemporaryDirectory() as room:
             with open(os.path.join(room, f"{name}.c"), "w", encoding="utf-8") as file:
@@ -182,6 +182,10 @@ def test_manual(root):
     same(len(outcomes), 14, "the outcomes of the header")
     same([name for name, number in outcomes if f"{name} ({number})\t" not in pages["man3/dalonjang.3"]], [],
          "outcomes that the page has not")
+    tables = re.findall(r"(DALONJANG_[A-Z_]+) = (\d+)", header.partition("enum dalonjang_table {")[2].partition("};")[0])
+    same(len(tables), 3, "the tables of the header")
+    same([name for name, number in tables if f"{name} ({number})" not in pages["man3/dalonjang.3"]], [],
+         "tables that the page has not")
     calls = set(re.findall(r"\b(dalonjang_[a-z_0-9]+)\(", header)) - {"dalonjang_drive"}
     same([call for call in sorted(calls) if f"{call}(" not in pages["man3/dalonjang.3"]], [], "calls that it has not")
     for name, page in pages.items():
@@ -194,9 +198,9 @@ def test_manual(root):
 # --- the README -------------------------------------------------------------------------------------------------------
 
 def test_readme_order(root):
-    """What it is, ten lines of C, picture, the commands, the server, asking, five files, proved and assumed, limits."""
+    """What it is, eleven lines of C, picture, the commands, the server, asking, five files, proved and assumed, limits."""
     titles = re.findall(r"^## (.*)$", text(root, "README.md"), re.M)
-    same(titles[:8], ["Ten lines of C", "One call, as a picture", "Three commands", "A server to try", "Asking",
+    same(titles[:8], ["Eleven lines of C", "One call, as a picture", "Three commands", "A server to try", "Asking",
                       "Five files to read, in this order", "Proved, tested, assumed", "Limits"], "the sections")
 
 

@@ -1,5 +1,5 @@
 /* The list of the program `cases` (crates/cases/stdin, whose head says what a record is), made as calls on the board:
- * outcome, code, length and every lent byte are compared. Each lent buffer has marked bytes on both sides; it ends at a
+ * the whole result and every lent byte are compared. Each lent buffer has marked bytes on both sides; it ends at a
  * border behind which nothing may even be read, where the board has memory protection.
  * On the console: how many, and the deepest stack. Status: 0 all as the list says, 1 a difference. */
 #include "board.h"
@@ -106,6 +106,8 @@ static void make_case(int first) {
     uint8_t fill[TABLES];
     uint8_t transport = (uint8_t)number_of(first, 1), unit = (uint8_t)read_number(1), hex = (uint8_t)read_number(1);
     uint8_t outcome = (uint8_t)read_number(1), code = (uint8_t)read_number(1);
+    uint8_t table = (uint8_t)read_number(1);
+    uint16_t named = (uint16_t)read_number(2), count = (uint16_t)read_number(2);
     lent[REPLY].len = (size_t)read_number(2);
     size_t changing = (size_t)read_number(1), at = (size_t)read_number(4);
     for (int t = 0; t < TABLES; t++) {
@@ -134,6 +136,7 @@ static void make_case(int first) {
     if (r.outcome != outcome) different("the outcome");
     if (r.code != code) different("the code");
     if (r.length != part[2].len) different("the reply's length");
+    if (r.table != table || r.first != named || r.count != count) different("what is named");
     if (memcmp(lent[REPLY].bytes, bytes[2], part[2].len) != 0) different("the reply");
     for (size_t i = part[2].len; i < lent[REPLY].len; i++)
         if (lent[REPLY].bytes[i] != LENT) different("a byte after the reply");

@@ -1,8 +1,8 @@
 #!/usr/bin/python3
 """line.py LIST MACHINE STATION.elf [OPTION..]: the cases of the list (crates/cases/stdin, whose head says what a record
-is) that are RTU frames to the station's unit and tables, over the emulated board's UART: reply, outcome, and both tables
-read back. Before each the tables are written as the case has them. Where this machine was so busy that a frame came to
-the board in pieces, that case is made again.
+is) that are RTU frames to the station's unit and tables, over the emulated board's UART: reply, outcome, the cells that
+are named, and both tables read back. Before each the tables are written as the case has them. Where this machine was so
+busy that a frame came to the board in pieces, that case is made again.
 Status: 0 all as the list says, 1 a difference, which is said."""
 import atexit
 import os
@@ -36,29 +36,30 @@ def with_crc(text):
 
 
 def cases(path):
-    """name, frame, outcome, reply, (coils, holdings) before and after."""
+    """name, frame, (reply, outcome, cells named), (coils, holdings) before and after."""
     name = ""
     for line in pathlib.Path(path).read_text().splitlines():
         if line.startswith("#"):
             name = line[2:]
             continue
         record = bytes.fromhex(line)
-        transport, unit, switch, outcome, _ = record[:5]
-        changing, at = record[7], int.from_bytes(record[8:12], "big")
-        tables = [record[12 + 13 * t:25 + 13 * t] for t in range(4)]
+        transport, unit, switch, outcome, _, table = record[:6]
+        named = table, int.from_bytes(record[6:8], "big"), int.from_bytes(record[8:10], "big")
+        changing, at = record[12], int.from_bytes(record[13:17], "big")
+        tables = [record[17 + 13 * t:30 + 13 * t] for t in range(4)]
         sizes = [(int.from_bytes(t[:4], "big"), int.from_bytes(t[4:12], "big")) for t in tables]
-        lengths, parts, start = [int.from_bytes(record[64 + 2 * p:66 + 2 * p], "big") for p in range(8)], [], 80
+        lengths, parts, start = [int.from_bytes(record[69 + 2 * p:71 + 2 * p], "big") for p in range(8)], [], 85
         for length in lengths:
             parts.append(record[start:start + length])
             start += length
-        fitting = (transport, unit, switch) == (0, 1, 0) and parts[0] == b"\0" and record[5:7] == b"\1\4"
+        fitting = (transport, unit, switch) == (0, 1, 0) and parts[0] == b"\0" and record[10:12] == b"\1\4"
         if not fitting or sizes != [(COILS, 16), (0, 0), (HOLDINGS, 4), (0, 0)] or not parts[1]:
             continue
         before = [(parts[4 + t] + tables[t][12:] * HOLDINGS)[:sizes[t][0]] for t in (0, 2)]
         after = [bytearray(b) for b in before]
         if parts[3]:
             after[changing // 2][at:at + len(parts[3])] = parts[3]
-        yield name, parts[1], outcome, parts[2], before, [bytes(a) for a in after]
+        yield name, parts[1], (parts[2], outcome, named), before, [bytes(a) for a in after]
 
 
 class Board:
@@ -89,14 +90,15 @@ class Board:
             wrong("the station says nothing")
 
     def ask(self, frame):
-        """The reply and the outcome. The console says what became of a frame, so one without a reply needs no waiting."""
+        """The reply, the outcome, and table, first and count of what was written. The console says what became of a
+        frame, so one without a reply needs no waiting."""
         self.uart.sendall(frame)
         came, pieces = 0, 0
         while came < min(len(frame), MOST):
             said = self.line().split()
-            if len(said) != 3 or not all(word.isdigit() for word in said):
+            if len(said) != 6 or not all(word.isdigit() for word in said):
                 wrong(f"the station says {said}")
-            outcome, length, taken = map(int, said)
+            outcome, length, taken, *named = map(int, said)
             came, pieces = came + taken, pieces + 1
         if pieces > 1:
             raise Pieces
@@ -106,19 +108,19 @@ class Board:
                 reply += self.uart.recv(length - len(reply))
             except OSError:
                 wrong(f"of a reply of {length} bytes {len(reply)} came")
-        return reply, outcome
+        return reply, outcome, tuple(named)
 
 
 def make_case(board, case, state):
     """The tables after it; `state` is what they are before, if that is known."""
-    name, frame, outcome, reply, before, after = case
+    name, frame, wanted, before, after = case
     if state != before:
         for text in f"010F0000001002{before[0].hex()}", f"01100000000408{before[1].hex()}":
             if board.ask(with_crc(text))[1] != 0:
                 wrong(f"{name}: the tables before it")
     got = board.ask(frame)
-    if got != (reply, outcome):
-        wrong(f"{name}: outcome {got[1]} and {got[0].hex() or 'no reply'}, not {outcome} and {reply.hex() or 'none'}")
+    if got != wanted:
+        wrong(f"{name}: (reply, outcome, cells named) {got}, not {wanted}")
     if board.ask(with_crc("010100000010"))[0] != with_crc(f"010102{after[0].hex()}"):
         wrong(f"{name}: the coils afterwards")
     if board.ask(with_crc("010300000004"))[0] != with_crc(f"010308{after[1].hex()}"):

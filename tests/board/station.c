@@ -1,6 +1,7 @@
 /* A Modbus RTU station on the board's UART, with the unit and the tables of document 01's cases. Bytes are collected by
  * the library, as in examples/gauge.c, and where the line has been quiet for long enough the frame is served. What became
- * of it goes to the console as a line: outcome, length of the reply, length of the frame.
+ * of it goes to the console as a line: outcome, length of the reply, length of the frame; table, first cell and count of
+ * what it wrote.
  * 3.5 characters are 2 ms at 19,200; to an emulator a frame's bytes come less evenly, so QUIET_MS is given. */
 #include "board.h"
 #include "dalonjang.h"
@@ -20,7 +21,8 @@ static void uart_byte(uint8_t byte) { have = dalonjang_offer(collector, sizeof c
 static void line_quiet(void) {
     struct dalonjang_result r = dalonjang_serve_quiet(&station, collector, sizeof collector, reply, sizeof reply);
     for (size_t i = 0; i < r.length; i++) uart_put(reply[i]);
-    printf("%u %u %u\n", (unsigned)r.outcome, (unsigned)r.length, (unsigned)have);
+    printf("%u %u %u", (unsigned)r.outcome, (unsigned)r.length, (unsigned)have);
+    printf(" %u %u %u\n", (unsigned)r.table, (unsigned)r.first, (unsigned)r.count);
     have = 0;
 }
 

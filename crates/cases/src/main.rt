@@ -1,6 +1,6 @@
 // Runs document 01's cases and both sides of its numbers through the driver. They are read from standard input, one
-// record a line, as the head of the list says. Every case lays its tables afresh, and compares outcome, code, the whole
-// reply buffer and all four tables.
+// record a line, as the head of the list says. Every case lays its tables afresh, and compares outcome, code, the cells
+// named, the whole reply buffer and all four tables.
 use driver::Driven;
 use driver::Setup;
 use octets::byte;
@@ -13,11 +13,11 @@ use records::parts::wide;
 ghost use Prim.Native.Nat.{_≤_};
 
 // Where the descriptions of the tables stand in a record, the lengths of its parts, and the parts.
-const TABLES: usize = 12;
+const TABLES: usize = 17;
 
-const LENGTHS: u16 = 64;
+const LENGTHS: u16 = 69;
 
-const PARTS: u16 = 80;
+const PARTS: u16 = 85;
 
 // How many parts there are: broadcast list, frame, reply, changed bytes, and the front of each table.
 const COUNT: u8 = 8;
@@ -58,8 +58,8 @@ fn kept(record: &[u8], t: u8, table: &[u8]) -> bool
 {
     let front = part(record, 4 + t);
     let filler = byte(record, table_at(t) + 12);
-    if byte(record, 7) == t {
-        return stands(table, front, filler, wide(record, 8), part(record, 3));
+    if byte(record, 12) == t {
+        return stands(table, front, filler, wide(record, 13), part(record, 3));
     }
     stands(table, front, filler, 0, &record[0..0])
 }
@@ -71,10 +71,19 @@ fn told(record: &[u8], got: Driven) -> bool {
     if got.code != byte(record, 4) {
         return false;
     }
+    if got.table != byte(record, 5) {
+        return false;
+    }
+    if got.first != word(record, 6) {
+        return false;
+    }
+    if got.count != word(record, 8) {
+        return false;
+    }
     got.length == part(record, 2).len()
 }
 
-// The call itself.
+// The call itself, and whether it tells what the record says.
 fn called(
     record: &[u8],
     coils: &mut [u8],
@@ -82,7 +91,7 @@ fn called(
     holdings: &mut [u8],
     inputs: &[u8],
     reply: &mut [u8],
-) -> Driven {
+) -> bool {
     let setup = Setup {
         transport: byte(record, 0),
         unit: byte(record, 1),
@@ -92,7 +101,7 @@ fn called(
         holding_cells: cells(record, 2),
         input_cells: cells(record, 3),
     };
-    dalonjang::dalonjang_drive(
+    let got = dalonjang::dalonjang_drive(
         setup,
         part(record, 0),
         coils,
@@ -101,7 +110,8 @@ fn called(
         inputs,
         part(record, 1),
         reply,
-    )
+    );
+    told(record, got)
 }
 
 // Whether every lent buffer is afterwards what the record says.
@@ -142,8 +152,7 @@ fn served(
     lay_table(record, 0, coils);
     lay_table(record, 2, holdings);
     lay(reply, &record[0..0], filler);
-    let got = called(record, coils, discretes, holdings, inputs, reply);
-    let right = told(record, got);
+    let right = called(record, coils, discretes, holdings, inputs, reply);
     left(record, coils, discretes, holdings, inputs, reply, filler) && right
 }
 
@@ -159,7 +168,7 @@ fn cut_written(
 ) -> bool {
     let c = wide(record, table_at(0));
     let h = wide(record, table_at(2));
-    let room = word(record, 5) as usize;
+    let room = word(record, 10) as usize;
     if coils.len() < c {
         return false;
     }

@@ -13,7 +13,7 @@ use Rattle.modbus.specs.declared.ErrorKind.the-variants.{OOB}
 use Rattle.tables.specs.Lent.{Lent}
 use Rattle.driver.specs.declared.Setup.{Setup as Numbers}
 use Rattle.driver.specs.declared.Driven.{Driven}
-use Rattle.driver.specs.Driven.{Leaves, leaving, called}
+use Rattle.driver.specs.Driven.{resulting, Leaves, leaving, called}
 use Rattle.collector.specs.declared.Closed.{Closed}
 use Rattle.collector.specs.declared.Closed.the-variants.{Nothing, Served}
 
@@ -43,7 +43,7 @@ emptied s = holding s []
 
 -- no byte is changed and no reply sent
 abbrev pub refusing : ℕ → Lent → List ℕ → Leaves
-refusing o l reply = leaving (record { length = 0; outcome = o; code = 0 }) reply (l .coilBytes) (l .holdingBytes)
+refusing o l reply = leaving (resulting o 0 0 []) reply (l .coilBytes) (l .holdingBytes)
 
 -- a whole frame: the driver's call on transport 0, and BadSetup on any other
 unfoldable pub rtuCalled : Numbers → List ℕ → Lent → List ℕ → List ℕ → Leaves
@@ -75,7 +75,7 @@ quieted n list l s reply = closing n list l s reply (heldIn s)
 -- ---- in numbers: NothingHeld is outcome 13, after document 01's
 
 abbrev pub closedPaper : Closed → Driven
-closedPaper Nothing = record { length = 0; outcome = 13; code = 0 }
+closedPaper Nothing = resulting 13 0 0 []
 closedPaper (Served d) = d
 
 abbrev pub leftBy : Quieted → Leaves × List ℕ

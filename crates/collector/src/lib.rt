@@ -12,7 +12,7 @@ ghost use mathlib.Core.List.{[]};
 ghost use Prim.Native.Nat.{_+_, _≤_};
 ghost use lib.ListN.{length, take, drop};
 ghost use Rattle.modbus.specs.Paper.{toldWith, sizePaper};
-ghost use Rattle.driver.specs.Driven.{lentIn, leaving};
+ghost use Rattle.driver.specs.Driven.{lentIn, resulting, leaving};
 ghost use Rattle.collector.specs.Collected.{heldIn, offered, rtuCalled, quieting, quieted, closedPaper};
 ghost use Rattle.collector.specs.Waits.{Waits};
 
@@ -75,6 +75,20 @@ fn waiting(state: &[u8]) -> Held
     Held::Bytes(n)
 }
 
+// Nothing is sent, and no cell written.
+fn refused(outcome: u8) -> Driven
+    ensures { λ r. ⌜ r ≡ resulting outcome 0 0 [] ⌝ }
+{
+    Driven {
+        length: 0,
+        outcome: outcome,
+        code: 0,
+        table: 0,
+        first: 0,
+        count: 0,
+    }
+}
+
 // A whole frame, which is one of RTU or none.
 fn serve(
     setup: Setup,
@@ -91,11 +105,7 @@ fn serve(
         (now (frame .entry)) (now (reply .entry)) ⌝ }
 {
     if setup.transport != 0 {
-        return Driven {
-            length: 0,
-            outcome: 10,
-            code: 0,
-        };
+        return refused(10);
     }
     driver::drive(
         setup,
@@ -147,11 +157,7 @@ pub fn outcome_of(closed: Closed) -> Driven
     ensures { λ r. ⌜ r ≡ closedPaper closed ⌝ }
 {
     match closed {
-        Closed::Nothing => Driven {
-            length: 0,
-            outcome: 13,
-            code: 0,
-        },
+        Closed::Nothing => refused(13),
         Closed::Served(driven) => driven,
     }
 }

@@ -3,13 +3,14 @@
 -- Assumes nothing.
 use mathlib.Core.Logic.{_⊎_, inl, inr, _≢_}
 use mathlib.Core.Path.{_≡_, ap, sym, _∙_}
-use mathlib.Core.List.{List, [], _∷_}
+use mathlib.Core.List.{List, [], _∷_, List·Memᴰ·not-nil}
 use Prim.Native.Nat.{ℕ, _-_, _%_, _≤_, _<_}
 use native.Mathlib.Omega.{arith}
 use lib.ListN.{length, take, drop, getD}
 use Rattle.modbus.specs.Bytes.{Bytes, pack}
 use Rattle.modbus.specs.Table.{bit, Tables, Tab, coils, holdings, part}
-use Rattle.modbus.specs.Storage.{values}
+use Rattle.modbus.specs.Paper.{rangePaper}
+use Rattle.modbus.specs.Storage.{coilAt, values}
 use Rattle.modbus.specs.Frame.{Framed}
 use Rattle.modbus.specs.Setup.{Setup, proto, Valid, Roomy}
 use Rattle.modbus.specs.Decode.{crcBytes, unwrap, spelledIn}
@@ -21,6 +22,7 @@ use Rattle.modbus.proofs.FrameLaws.{complete}
 use Rattle.tables.specs.Lent.{Lent}
 use Rattle.driver.specs.Driven.{Leaves}
 use Rattle.demands.specs.Demand.{Request, Serves}
+use Rattle.demands.specs.Changed.{Steady}
 use Rattle.demands.specs.Order.{no-room, frame-check}
 use Rattle.demands.specs.Cases.{setup, start, caseD, caseF}
 use Rattle.demands.specs.Impostors.{Driver, Meets, asking, beyond, across}
@@ -68,6 +70,20 @@ module _ (D : Driver) where
       let e : _≡_ {A = ℕ} 1 0 = rw (on-tcp m fresh caseD (omega arith)) at (h (setup 2) fresh caseD coils 9) in
       omega arith
 
+  -- naming a whole table always: a served request has its own range
+  pub naming-the-whole-table : ((s : Setup) (t : Tables) (f : List ℕ) → (tab : Tab) × (D s t f .changed ≡ record { tab = tab; first = 0; count = s .cells tab } ∷ []))
+      → ¬ Meets D
+  unfolding computing
+  naming-the-whole-table h m =
+      let e : _≡_ {A = ℕ} 0 9 =
+      ap (λ l. rangePaper l .1) (sym (h (setup 2) fresh caseD .1) ∙ ap (λ x. x .changed) (on-tcp m fresh caseD (omega arith))) in
+      omega arith
+
+  -- naming nothing, and writing all the same: the cell outside what is named is not the same
+  pub naming-nothing : (s : Setup) (t : Tables) (f : List ℕ) → D s t f .changed ≡ [] → (tab : Tab) (i : ℕ) → D s t f .after tab i ≢ t tab i
+      → ¬ Steady t (D s t f)
+  naming-nothing s t f e tab i n h = n (h tab i (rw e (λ r m _. List·Memᴰ·not-nil m)))
+
   -- ---- wrong turns
 
   -- checking function 16's byte count but storing up to it before testing the range
@@ -114,6 +130,10 @@ module _ (s : Setup) (l : Lent) (frame reply : List ℕ) (g : Leaves) where
       → ¬ Promised s l frame reply g
   refusing-but-storing high (inl n) p = n (p .unchanged high .0)
   refusing-but-storing high (inr n) p = n (p .unchanged high .1)
+
+  -- naming nothing by its numbers, and storing all the same
+  pub storing-unnamed : g .result .table ≡ 0 → (i : ℕ) → coilAt (g .coilBytes) i ≢ coilAt (l .coilBytes) i → ¬ Promised s l frame reply g
+  storing-unnamed e i n p = n (p .held .bits i (λ h. let z : _≡_ {A = ℕ} 0 1 = sym e ∙ h .0 in omega arith))
 
   -- serving where there is no room for the reply
   pub serving-without-room : Valid s → ¬ Roomy s → g .result .outcome < 2 → ¬ Promised s l frame reply g

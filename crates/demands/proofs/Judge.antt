@@ -117,10 +117,10 @@ module _ (s : Setup) (t : Tables) (f : List ℕ) where
   coded-returns : {m : Message} {o c : ℕ} {r : List ℕ} → Coded s m o c r → judge s f ≡ stop (coded m c) → Returns s t f o c r
   unfolding drive settle
   coded-returns {m} (exception-sent c n) e =
-      let w : drive s t f ≡ replying s m 2 c (exception (numberOf m) c) t = ap (settle s t) e ∙ pick-no _ _ _ n in
+      let w : drive s t f ≡ replying s m 2 c (exception (numberOf m) c) t [] = ap (settle s t) e ∙ pick-no _ _ _ n in
       rw w (refl, refl, refl)
   coded-returns {m} (ignored c b) e =
-      let w : drive s t f ≡ silently 3 c t = ap (settle s t) e ∙ pick-yes _ _ _ b in
+      let w : drive s t f ≡ silently 3 c t [] = ap (settle s t) e ∙ pick-yes _ _ _ b in
       rw w (refl, refl, refl)
 
   pub refusal-returns : Bytes f → {o c : ℕ} {r : List ℕ} → Refusal s f o c r → Returns s t f o c r

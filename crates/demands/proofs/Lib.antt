@@ -5,6 +5,7 @@ pub mod Judge
 pub mod StoredLaws
 pub mod Third
 pub mod Spelled
+pub mod Named
 pub mod Exactly
 pub mod MaskAndBoth
 pub mod Replies

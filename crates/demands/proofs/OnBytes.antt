@@ -12,17 +12,20 @@ use lib.Seq.{sets, sets-eq, length-sets, take-append-seam, drop-append-seam}
 use Rattle.modbus.specs.Step.{go}
 use Rattle.modbus.specs.Bytes.{Bytes}
 use Rattle.modbus.specs.Table.{Tables, Tab, coils, holdings}
-use Rattle.modbus.specs.Request.{Ask, writing, apply}
+use Rattle.modbus.specs.Request.{code, reads, Ask, writing, apply}
+use Rattle.modbus.specs.Paper.{rangeTold}
 use Rattle.modbus.specs.Setup.{Setup, Valid, valid?, Roomy, roomy?}
 use Rattle.modbus.specs.Decode.{Message}
 use Rattle.modbus.specs.Drive.{Result, judge, drive}
 use Rattle.modbus.proofs.StepLaws.{needed}
-use Rattle.modbus.proofs.DriveLaws.{stop-after, go-low, go-after, by-judge}
+use Rattle.modbus.proofs.DriveLaws.{stop-after, stop-changed, go-low, go-after, go-changed, by-judge}
+use Rattle.modbus.proofs.PaperLaws.{range-told}
 use Rattle.tables.specs.Lent.{Lent, tableOf, cellsOf, tablesOf}
 use Rattle.driver.specs.Driven.{setupOf, bytesBy, resultOf, Leaves, leaving, driven, called}
 use Rattle.driver.specs.declared.Setup.{Setup as Numbers}
 use Rattle.demands.specs.Demand.{Demand3}
 use Rattle.demands.specs.Order.{Refusal, bad-setup, no-room}
+use Rattle.demands.specs.Changed.{Outside, Names, Held}
 use Rattle.demands.specs.OnBytes.{lentAfter, showed, refusing, Unwritten, Kept}
 use Rattle.demands.specs.Promised.{Promised}
 use Rattle.demands.proofs.CellLaws.{run-of, apply-stored, same-cells}
@@ -31,6 +34,7 @@ use Rattle.demands.proofs.Exactly.{refusal-high, exactly}
 use Rattle.demands.proofs.Replies.{reply-room}
 use Rattle.demands.proofs.StoredLaws.{Part, ask-stored, stored-length, stored-free, spare-free}
 use Rattle.demands.proofs.Third.{demand-3}
+use Rattle.demands.proofs.Named.{one-range, hit-named}
 
 judge-valid : (s : Setup) (f : List ℕ) {w : Message × Ask} → judge s f ≡ go w → Valid s
 unfolding judge
@@ -80,7 +84,11 @@ module _ (n : Numbers) (list : List ℕ) (l : Lent) (frame reply : List ℕ) (y 
       (λ x e. rw e (refl, refl))
       (λ m a e. rw e (stored-length coils (writing a) _ _, stored-length holdings (writing a) _ _))
 
-  outside-cells : (tab : Tab) (i : ℕ) → Unwritten s frame tab i → tablesOf (lentAfter l call) tab i ≡ tablesOf l tab i
+  -- what was judged to be served writes no such cell
+  abbrev Spared : Tab → ℕ → Type 0
+  Spared tab i = (m : Message) (a : Ask) → judge s frame ≡ go (m, a) → Outside (writing a) tab i
+
+  outside-cells : (tab : Tab) (i : ℕ) → Spared tab i → tablesOf (lentAfter l call) tab i ≡ tablesOf l tab i
   unfolding drive
   outside-cells tab i free =
       ap (λ (t : Tables). t tab i) call-after
@@ -88,20 +96,29 @@ module _ (n : Numbers) (list : List ℕ) (l : Lent) (frame reply : List ℕ) (y 
       (λ x e. rw (e, stop-after s (tablesOf l) x))
       (λ m a e.
       let h = judge-serves s frame y m a e in
-      rw (e, go-after s (tablesOf l) m a) (apply-stored a (tablesOf l) (h .permitted) .keeps tab i (free (requested m a) h)))
+      rw (e, go-after s (tablesOf l) m a) (apply-stored a (tablesOf l) (h .permitted) .keeps tab i (free m a e)))
 
   -- a byte that is part of no cell written
-  outside-byte : (t : Tab) (b : ℕ) → ((i : ℕ) → Part t b i → Unwritten s frame t i)
+  outside-byte : (t : Tab) (b : ℕ) → ((i : ℕ) → Part t b i → Spared t i)
       → getD (bytesBy l (judge s frame) t) b 0 ≡ getD (tableOf l t) b 0
   outside-byte t b free =
       by-judge s frame
       (λ x e. rw e)
       (λ m a e.
       let h = judge-serves s frame y m a e in
-      rw e (stored-free t b (run-of a (tablesOf l) (h .permitted)) (tableOf l t) (λ i q. free i q (requested m a) h)))
+      rw e (stored-free t b (run-of a (tablesOf l) (h .permitted)) (tableOf l t) (λ i q. free i q m a e)))
 
-  spare-unwritten : (tab : Tab) (i : ℕ) → cellsOf l tab ≤ i → Unwritten s frame tab i
-  spare-unwritten tab i high q v = spare-free s tab i high (q .ask) (v .inside)
+  unwritten-spared : (tab : Tab) (i : ℕ) → Unwritten s frame tab i → Spared tab i
+  unwritten-spared tab i free m a e = free (requested m a) (judge-serves s frame y m a e)
+
+  spare-spared : (tab : Tab) (i : ℕ) → cellsOf l tab ≤ i → Spared tab i
+  spare-spared tab i high m a e = spare-free s tab i high a (judge-serves s frame y m a e .inside)
+
+  unnamed-spared : (tab : Tab) (i : ℕ) → ¬ Names (call .result) (code (reads tab)) i → Spared tab i
+  unfolding driven drive
+  unnamed-spared tab i free m a e r w h =
+      let z : due .changed ≡ writing a = rw e (go-changed s (tablesOf l) m a) in
+      free (rw z (hit-named (run-of a (tablesOf l) (judge-serves s frame y m a e .permitted)) tab i r w h))
 
   -- ---- the numbers and the reply
 
@@ -130,16 +147,24 @@ module _ (n : Numbers) (list : List ℕ) (l : Lent) (frame reply : List ℕ) (y 
   call-fits : call .result .length ≤ length reply
   call-fits = rw call-laid due-fits
 
+  -- the numbers tell the range
+  call-changed : rangeTold (call .result .table) (call .result .first) (call .result .count) ≡ due .changed
+  unfolding driven drive
+  call-changed =
+      by-judge s frame
+      (λ x e. rw (e, stop-changed s (tablesOf l) x))
+      (λ m a e. rw (e, go-changed s (tablesOf l) m a) (range-told a))
+
   call-due : showed l call ≡ due
   unfolding driven drive
-  call-due = λ i. record { outcome = due .outcome; exceptionCode = due .exceptionCode; reply = call-reply i; after = call-after i }
+  call-due = λ i. record { outcome = due .outcome; exceptionCode = due .exceptionCode; reply = call-reply i; after = call-after i; changed = call-changed i }
 
   call-refusing : 2 ≤ due .outcome → call ≡ refusing l reply (due .outcome) (due .exceptionCode) (due .reply)
   unfolding drive
   call-refusing high =
       call-laid
       ∙ by-judge s frame
-      (λ x e. rw e)
+      (λ x e. rw (e, stop-changed s (tablesOf l) x))
       (λ m a e. absurd (let low : due .outcome < 2 = rw e (go-low s (tablesOf l) m a) in omega arith))
 
   -- ---- any call that the contract allows
@@ -196,14 +221,33 @@ module _ (n : Numbers) (list : List ℕ) (l : Lent) (frame reply : List ℕ) (y 
           replyLength = call-room;
           replyFits = call-fits;
           replyRest = call-rest;
-          coilsOutside = outside-cells coils;
-          holdingsOutside = λ b free. outside-byte holdings b (λ i q. subst (λ (j : ℕ). Unwritten s frame holdings j) q free);
-          spareBits = λ i high. outside-cells coils i (spare-unwritten coils i high);
-          spareCoilBytes = λ b high. outside-byte coils b (λ i q. spare-unwritten coils i (omega arith));
-          spareHoldingBytes = λ b high. outside-byte holdings b (λ i q. spare-unwritten holdings i (omega arith));
+          coilsOutside = λ i free. outside-cells coils i (unwritten-spared coils i free);
+          holdingsOutside = λ b free. outside-byte holdings b (λ i q. unwritten-spared holdings i (subst (λ (j : ℕ). Unwritten s frame holdings j) q free));
+          spareBits = λ i high. outside-cells coils i (spare-spared coils i high);
+          spareCoilBytes = λ b high. outside-byte coils b (λ i q. spare-spared coils i (omega arith));
+          spareHoldingBytes = λ b high. outside-byte holdings b (λ i q. spare-spared holdings i (omega arith));
+        })
+
+    -- what the result does not name is as lent
+    pub held-on-bytes : Held l g
+    unfolding driven drive
+    held-on-bytes =
+        rw e
+        (record {
+          told = one-range s (tablesOf l) frame y .1;
+          bits = λ i free. outside-cells coils i (unnamed-spared coils i free);
+          words = λ b free.
+              outside-byte holdings b (λ i q. unnamed-spared holdings i (subst (λ (j : ℕ). ¬ Names (call .result) 3 j) q free));
         })
 
     -- all of it
     pub promised : Promised s l frame reply g
     promised =
-        record { third = demand-on-bytes; refused = refusals-on-bytes; due = refusal-due; unchanged = untouched; kept = kept-on-bytes }
+        record {
+          third = demand-on-bytes;
+          refused = refusals-on-bytes;
+          due = refusal-due;
+          unchanged = untouched;
+          kept = kept-on-bytes;
+          held = held-on-bytes;
+        }

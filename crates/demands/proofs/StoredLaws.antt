@@ -10,7 +10,7 @@ use lib.ListN.{length, getD, set}
 use lib.Seq.{getD-set-other}
 use Rattle.modbus.specs.Step.{choose}
 use Rattle.modbus.specs.Bytes.{All}
-use Rattle.modbus.specs.Table.{Kind, bit, word, Tab, tab?, coils, discretes, holdings, inputs, target, Fits, Tables, Range, Hits}
+use Rattle.modbus.specs.Table.{Kind, bit, word, Tab, tab?, coils, discretes, holdings, inputs, target, Fits, Tables, Range}
 use Rattle.modbus.specs.Request.{Ask, Permitted, reading, writing, given}
 use Rattle.modbus.specs.Storage.{putCoil, putRegister, storage, store}
 use Rattle.modbus.specs.Setup.{Setup, Valid, Within}
@@ -21,6 +21,7 @@ use Rattle.modbus.proofs.RegisterLaws.{registers-law}
 use Rattle.tables.specs.Lent.{Lent, lentOf, tableOf, tablesOf}
 use Rattle.driver.specs.Driven.{storedIn, bytesAfter}
 use Rattle.demands.specs.Demand.{Stored}
+use Rattle.demands.specs.Changed.{Outside}
 use Rattle.demands.proofs.CellLaws.{Run, nothing, run, run-of}
 
 -- ---- how a table is kept
@@ -72,11 +73,7 @@ stored-length t [] vs l = refl
 stored-length t (r ∷ rs) vs l =
     either (λ (x : List ℕ). length x ≡ length l) (tab? t (r .tab)) _ _ (λ e. store-length (law-of t) l (r .first) vs) (λ _. refl)
 
--- no range has this cell
-abbrev pub Free : List Range → Tab → ℕ → Type 0
-Free rs tab i = (r : Range) → List·Memᴰ r rs → ¬ Hits r tab i
-
-pub stored-free : (t : Tab) (b : ℕ) {rs : List Range} {vs : List ℕ} → Run rs vs → (l : List ℕ) → ((n : ℕ) → Part t b n → Free rs t n)
+pub stored-free : (t : Tab) (b : ℕ) {rs : List Range} {vs : List ℕ} → Run rs vs → (l : List ℕ) → ((n : ℕ) → Part t b n → Outside rs t n)
     → getD (storedIn t rs vs l) b 0 ≡ getD l b 0
 stored-free t b nothing l o = refl
 stored-free t b (run k s vs f) l o =
@@ -132,7 +129,7 @@ module _ (s : Setup) where
   written-within a h = each-within (writing a) (last-within (reading a) (writing a) h)
 
   -- no request inside the tables writes a spare cell
-  pub spare-free : (tab : Tab) (i : ℕ) → s .cells tab ≤ i → (a : Ask) → Inside s a → Free (writing a) tab i
+  pub spare-free : (tab : Tab) (i : ℕ) → s .cells tab ≤ i → (a : Ask) → Inside s a → Outside (writing a) tab i
   spare-free tab i spare a h r m hit =
       let w = written-within a h r m in
       let z : s .cells tab ≡ s .cells (r .tab) = ap (s .cells) (hit .0) in

@@ -7,13 +7,13 @@ use native.Mathlib.Omega.{arith}
 use Rattle.modbus.specs.Step.{stop}
 use Rattle.modbus.specs.Bytes.{Bytes}
 use Rattle.modbus.specs.Table.{Tables}
-use Rattle.modbus.specs.Request.{Ask, apply, seen, found, answer}
+use Rattle.modbus.specs.Request.{Ask, writing, apply, seen, found, answer}
 use Rattle.modbus.specs.Setup.{Setup, Valid, Roomy}
 use Rattle.modbus.specs.Unit.{Broadcast}
 use Rattle.modbus.specs.Decode.{Message}
 use Rattle.modbus.specs.Drive.{Fault, judge, silently, replying, settle, drive}
 use Rattle.modbus.proofs.StepLaws.{pick-yes, pick-no}
-use Rattle.modbus.proofs.DriveLaws.{stop-high, stop-after, go-low, go-after, by-judge}
+use Rattle.modbus.proofs.DriveLaws.{stop-high, stop-after, stop-changed, go-low, go-after, go-changed, by-judge}
 use Rattle.demands.specs.Demand.{Request, Serves, Demand3}
 use Rattle.demands.proofs.CellLaws.{apply-stored}
 use Rattle.demands.proofs.Judge.{requested, message, judge-serves, serves-judge, judge-refused}
@@ -21,11 +21,11 @@ use Rattle.demands.proofs.Judge.{requested, message, judge-serves, serv
 module _ (s : Setup) (t : Tables) (f : List ℕ) (y : Bytes f) (v : Valid s) (room : Roomy s) where
   -- what the driver does with a request that is to be served
   own : (q : Request) (h : Serves s f q) → ¬ Broadcast s (q .unit)
-      → drive s t f ≡ replying s (message s f q h) 0 0 (answer (q .ask) (found (q .ask) (seen (apply (q .ask) t)))) (apply (q .ask) t)
+      → drive s t f ≡ replying s (message s f q h) 0 0 (answer (q .ask) (found (q .ask) (seen (apply (q .ask) t)))) (apply (q .ask) t) (writing (q .ask))
   unfolding drive settle
   own q h n = ap (settle s t) (serves-judge s f v room q h) ∙ pick-no _ _ _ n
 
-  shared : (q : Request) → Serves s f q → Broadcast s (q .unit) → drive s t f ≡ silently 1 0 (apply (q .ask) t)
+  shared : (q : Request) → Serves s f q → Broadcast s (q .unit) → drive s t f ≡ silently 1 0 (apply (q .ask) t) (writing (q .ask))
   unfolding drive settle
   shared q h b = ap (settle s t) (serves-judge s f v room q h) ∙ pick-yes _ _ _ b
 
@@ -53,6 +53,8 @@ module _ (s : Setup) (t : Tables) (f : List ℕ) (y : Bytes f) (v : Valid s) (ro
         written = λ q h. rw (serves-judge s f v room q h, go-after s t (message s f q h) (q .ask)) (apply-stored (q .ask) t (h .permitted));
         answered = λ q h n. rw (own q h n) (refl, refl, refl);
         silent = λ q h b. rw (shared q h b) (refl, refl, refl);
+        named = λ q h. rw (serves-judge s f v room q h, go-changed s t (message s f q h) (q .ask));
+        nameless = λ n. served-or (λ q h. absurd (n (q, h))) (λ x e. rw (e, stop-changed s t x));
         kept = λ n tab i. served-or (λ q h. absurd (n (q, h))) (λ x e. rw (e, stop-after s t x));
         refused = λ n. served-or (λ q h. absurd (n (q, h))) (λ x e. rw e (judge-refused s t f y x e));
       }

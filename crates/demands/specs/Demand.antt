@@ -52,6 +52,9 @@ pub record Demand3 (s : Setup) (t : Tables) (f : List ℕ) (r : Result) : Type 0
   pub answered : (q : Request) → Serves s f q → ¬ Broadcast s (q .unit)
       → (r .outcome ≡ 0) × (r .exceptionCode ≡ 0) × (r .reply ≡ wrap (proto s) (q .tag) (q .unit ∷ answer (q .ask) (found (q .ask) (seen (r .after)))))
   pub silent : (q : Request) → Serves s f q → Broadcast s (q .unit) → (r .outcome ≡ 1) × (r .exceptionCode ≡ 0) × (r .reply ≡ [])
+  -- the cells written are named: those of the request, and none where there is no request (document 02, 2026-07)
+  pub named : (q : Request) → Serves s f q → r .changed ≡ writing (q .ask)
+  pub nameless : ¬ ((q : Request) × Serves s f q) → r .changed ≡ []
   -- if none exists no cell changes, and the reply is 01's one exception, or nothing
   pub kept : ¬ ((q : Request) × Serves s f q) → (tab : Tab) (i : ℕ) → r .after tab i ≡ t tab i
   pub refused : ¬ ((q : Request) × Serves s f q) → Refusal s f (r .outcome) (r .exceptionCode) (r .reply)

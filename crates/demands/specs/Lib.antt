@@ -5,5 +5,6 @@ pub mod Cases
 pub mod Requested
 pub mod Exchanges
 pub mod Impostors
+pub mod Changed
 pub mod OnBytes
 pub mod Promised

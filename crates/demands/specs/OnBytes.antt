@@ -1,17 +1,19 @@
 -- What a call of the driver shows on bytes, read as a result on cells, and what it leaves as lent.
 -- Assumes nothing.
 use mathlib.Core.Path.{_≡_}
-use mathlib.Core.List.{List, _++_, List·Memᴰ}
+use mathlib.Core.List.{List, [], _++_}
 use Prim.Native.Nat.{ℕ, _*_, _/_, _≤_}
 use lib.ListN.{length, take, drop, getD}
-use Rattle.modbus.specs.Table.{Tab, coils, holdings, Range, Hits}
+use Rattle.modbus.specs.Table.{Tab, coils, holdings}
 use Rattle.modbus.specs.Request.{writing}
+use Rattle.modbus.specs.Paper.{rangeTold}
 use Rattle.modbus.specs.Storage.{coilAt}
 use Rattle.modbus.specs.Setup.{Setup}
 use Rattle.modbus.specs.Drive.{Result}
 use Rattle.tables.specs.Lent.{Lent, lentOf, tablesOf}
-use Rattle.driver.specs.Driven.{Leaves, leaving}
+use Rattle.driver.specs.Driven.{resulting, Leaves, leaving}
 use Rattle.demands.specs.Demand.{Request, Serves}
+use Rattle.demands.specs.Changed.{Outside}
 
 -- the lent tables after a call: the coils and the holdings have its bytes, the discretes and the inputs are only read
 abbrev pub lentAfter : Lent → Leaves → Lent
@@ -22,7 +24,8 @@ lentAfter l g =
     (g .holdingBytes) (l .holdingCells)
     (l .inputBytes) (l .inputCells)
 
--- what a call showed: its outcome and code, as many bytes from the front of the reply buffer as it said, and the cells of the bytes
+-- what a call showed: its outcome and code, as many bytes from the front of the reply buffer as it said, the cells of the bytes, and the range that its
+-- numbers tell
 abbrev pub showed : Lent → Leaves → Result
 showed l g =
     record {
@@ -30,16 +33,17 @@ showed l g =
       exceptionCode = g .result .code;
       reply = take (g .result .length) (g .replyBytes);
       after = tablesOf (lentAfter l g);
+      changed = rangeTold (g .result .table) (g .result .first) (g .result .count);
     }
 
--- a call that refused: its outcome and code, its reply in front of the buffer, and every other byte as lent
+-- a call that refused: its outcome and code, no cell written, its reply in front of the buffer, and every other byte as lent
 abbrev pub refusing : Lent → List ℕ → ℕ → ℕ → List ℕ → Leaves
 refusing l reply o c r =
-    leaving (record { length = length r; outcome = o; code = c }) (r ++ drop (length r) reply) (l .coilBytes) (l .holdingBytes)
+    leaving (resulting o c (length r) []) (r ++ drop (length r) reply) (l .coilBytes) (l .holdingBytes)
 
 -- no request that the frame is to be served as writes this cell
 abbrev pub Unwritten : Setup → List ℕ → Tab → ℕ → Type 0
-Unwritten s f tab i = (q : Request) → Serves s f q → (r : Range) → List·Memᴰ r (writing (q .ask)) → ¬ Hits r tab i
+Unwritten s f tab i = (q : Request) → Serves s f q → Outside (writing (q .ask)) tab i
 
 -- what every call leaves
 pub record Kept (s : Setup) (l : Lent) (frame reply : List ℕ) (g : Leaves) : Type 0 where

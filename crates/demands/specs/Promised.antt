@@ -10,6 +10,7 @@ use Rattle.tables.specs.Lent.{Lent, tablesOf}
 use Rattle.driver.specs.Driven.{Leaves}
 use Rattle.demands.specs.Demand.{Demand3}
 use Rattle.demands.specs.Order.{Refusal}
+use Rattle.demands.specs.Changed.{Held}
 use Rattle.demands.specs.OnBytes.{showed, refusing, Kept}
 
 pub record Promised (s : Setup) (l : Lent) (frame reply : List ℕ) (g : Leaves) : Type 0 where
@@ -23,3 +24,5 @@ pub record Promised (s : Setup) (l : Lent) (frame reply : List ℕ) (g : Leaves)
   pub unchanged : 2 ≤ g .result .outcome → (g .coilBytes ≡ l .coilBytes) × (g .holdingBytes ≡ l .holdingBytes)
   -- outside the reply and a served write every lent byte is as it was
   pub kept : Kept s l frame reply g
+  -- and so is all that the result does not name
+  pub held : Held l g

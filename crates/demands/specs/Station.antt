@@ -69,6 +69,9 @@ pub record Exchange : Type 0 where
   pub reply : List ℕ
   pub coilBytes : List ℕ
   pub holdingBytes : List ℕ
+  pub table : ℕ
+  pub first : ℕ
+  pub count : ℕ
 
 -- the same as the definitions give it
 abbrev pub leaves : Exchange → Leaves
@@ -85,13 +88,28 @@ exchanged e =
       reply = take (leaves e .result .length) (leaves e .replyBytes);
       coilBytes = leaves e .coilBytes;
       holdingBytes = leaves e .holdingBytes;
+      table = leaves e .result .table;
+      first = leaves e .result .first;
+      count = leaves e .result .count;
     }
 
--- an outcome, code and reply, the coils and the holdings afterwards
-abbrev pub changing : Station → ℕ → List ℕ → ℕ → ℕ → List ℕ → List ℕ → List ℕ → Exchange
-changing s n f o x r c h =
-    record { station = s; transport = n; frame = f; outcome = o; code = x; reply = r; coilBytes = c; holdingBytes = h }
+-- an outcome, code and reply, the coils and the holdings afterwards, and the table, the first and the number of the cells that the result names
+abbrev pub changing : Station → ℕ → List ℕ → ℕ → ℕ → List ℕ → List ℕ → List ℕ → ℕ → ℕ → ℕ → Exchange
+changing s n f o x r c h table first count =
+    record {
+      station = s;
+      transport = n;
+      frame = f;
+      outcome = o;
+      code = x;
+      reply = r;
+      coilBytes = c;
+      holdingBytes = h;
+      table = table;
+      first = first;
+      count = count;
+    }
 
--- the same, where no byte of a table changes
+-- the same, where nothing is written and nothing named
 abbrev pub saying : Station → ℕ → List ℕ → ℕ → ℕ → List ℕ → Exchange
-saying s n f o x r = changing s n f o x r (s .lent .coilBytes) (s .lent .holdingBytes)
+saying s n f o x r = changing s n f o x r (s .lent .coilBytes) (s .lent .holdingBytes) 0 0 0

@@ -1,7 +1,7 @@
 -- A call, by how far it comes: the setup, the room, the frame.
 -- Assumes nothing.
 use mathlib.Core.Path.{_≡_, sym, ap, _∙_}
-use mathlib.Core.List.{List}
+use mathlib.Core.List.{List, []}
 use Prim.Native.Nat.{ℕ, _+_, _<_}
 use Rattle.modbus.specs.Step.{stop, go}
 use Rattle.modbus.specs.Paper.{protoOf}
@@ -14,8 +14,8 @@ use Rattle.tables.specs.Lent.{Lent}
 use Rattle.transports.specs.Opened.{opened, faultOf}
 use Rattle.transports.proofs.AnswerLaws.{opened-none, number-fault}
 use Rattle.driver.specs.declared.Setup.{Setup as Numbers}
-use Rattle.driver.specs.Driven.{setupOf, Leaves, leaving, settled, driven, called}
-use Rattle.driver.specs.Serving.{resulting, handled}
+use Rattle.driver.specs.Driven.{setupOf, resulting, Leaves, leaving, settled, driven, called}
+use Rattle.driver.specs.Serving.{handled}
 
 module _ (n : Numbers) (list : List ℕ) (l : Lent) (f reply : List ℕ) where
   abbrev set : Setup
@@ -26,7 +26,7 @@ module _ (n : Numbers) (list : List ℕ) (l : Lent) (f reply : List ℕ) where
   shown = spelledIn (protoOf (n .transport)) (n .hex) f
 
   abbrev quietly-leaving : ℕ → Leaves
-  quietly-leaving o = leaving (resulting o 0 0) reply (l .coilBytes) (l .holdingBytes)
+  quietly-leaving o = leaving (resulting o 0 0 []) reply (l .coilBytes) (l .holdingBytes)
 
   pub bad-called : ¬ Valid set → quietly-leaving 10 ≡ called n list l f reply
   unfolding driven judge settle

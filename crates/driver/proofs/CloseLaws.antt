@@ -14,7 +14,7 @@ use Rattle.modbus.specs.declared.ModbusProto.the-variants.{Rtu, Ascii, TcpUdp}
 use Rattle.modbus.proofs.FrameLaws.{length-wrap}
 use Rattle.driver.specs.declared.Driven.{Driven}
 use Rattle.driver.specs.Driven.{Leaves, leaving}
-use Rattle.driver.specs.Serving.{resulting, Turn, laid, closing}
+use Rattle.driver.specs.Serving.{Telling, resultBy, Turn, Laid, laying, laid, closing}
 
 pub tag-length : (p : ModbusProto) (high low : ℕ) → length (tagOf p high low) ≡ tagLength p
 tag-length Rtu high low = refl
@@ -57,46 +57,40 @@ framed p tag [] = []
 framed p tag (x ∷ b) = wrap p tag (x ∷ b)
 
 module _ (p : ModbusProto) (tag reply : List ℕ) where
-  abbrev pub closed : Turn → Leaves
-  closed t =
-      leaving (resulting (t .outcome) (t .code) (length (framed p tag (t .body)))) (sets reply 0 (framed p tag (t .body))) (t .coilBytes) (t .holdingBytes)
+  -- what is left of a turn of which this is told
+  abbrev pub closed : Telling → Turn → Leaves
+  closed d t =
+      leaving (resultBy d (length (framed p tag (t .body)))) (sets reply 0 (framed p tag (t .body))) (t .coilBytes) (t .holdingBytes)
 
   module _ (tagged : length tag ≡ tagLength p) (room : roomFor p ≤ length reply) where
-    sealed : (o c : ℕ) (b : List ℕ) → length b ≤ 253
-        → closing p tag (resulting o c (length b)) (sets reply (startOf p) b) (length b)
-        ≡ (resulting o c (length (framed p tag b)), sets reply 0 (framed p tag b))
-    sealed o c [] h = refl
-    sealed o c (x ∷ y) h =
+    sealed : (b : List ℕ) → length b ≤ 253
+        → closing p tag (sets reply (startOf p) b) (length b) ≡ (length (framed p tag b), sets reply 0 (framed p tag b))
+    sealed [] h = refl
+    sealed (x ∷ y) h =
         let b = x ∷ y in
         let n = length-wrap p tag b tagged in
         let f = around-body p (length b) in
         let g = around-room p (length b) h in
         let e : take (length b) (drop (startOf p) (sets reply (startOf p) b)) ≡ b = sets-back reply (startOf p) b (omega arith) in
-        ap₂ (λ (k : ℕ) (l : List ℕ). (resulting o c k, l)) (sym n)
+        ap₂ (λ (k : ℕ) (l : List ℕ). (k, l)) (sym n)
         (ap (λ (l : List ℕ). sets (sets reply (startOf p) b) 0 (wrap p tag l)) e ∙ sets-over reply (startOf p) b (wrap p tag b) (omega arith) (omega arith))
 
-    -- what was served and what was closed make up the call
-    pub closes : (t : Turn) → length (t .body) ≤ 253 → (d : Driven) (o c h : List ℕ) → leaving d o c h ≡ laid (startOf p) reply t
-        → (r : Driven) (q : List ℕ) → _≡_ {A = Driven × List ℕ} (r, q) (closing p tag d o (d .length)) → leaving r q c h ≡ closed t
-    closes t brief d o c h e r q f =
-        let g = ap (λ (x : Leaves). closing p tag (x .result) (x .replyBytes) (x .result .length)) e in
-        let k = f ∙ g ∙ sealed (t .outcome) (t .code) (t .body) brief in
-        ap₂ (λ (x : Driven × List ℕ) (y : Leaves). leaving (x .0) (x .1) (y .coilBytes) (y .holdingBytes)) k e
+    -- what was told, what was served and what was closed make up the call
+    pub closes : (t : Turn) → length (t .body) ≤ 253 → (n : ℕ) (o c h : List ℕ) → laying n o c h ≡ laid (startOf p) reply t
+        → (m : ℕ) (q : List ℕ) → _≡_ {A = ℕ × List ℕ} (m, q) (closing p tag o n)
+        → (d : Telling) (r : Driven) → r ≡ resultBy d m → leaving r q c h ≡ closed d t
+    closes t brief n o c h e m q f d r g =
+        let k = f ∙ ap (λ (x : Laid). closing p tag (x .replyBytes) (x .bodyLength)) e ∙ sealed (t .body) brief in
+        ap (λ (r : Driven). leaving r q c h) g
+        ∙ ap₂ (λ (x : ℕ × List ℕ) (y : Laid). leaving (resultBy d (x .0)) (x .1) (y .coilBytes) (y .holdingBytes)) k e
 
 -- ---- each way out of closing
 
-module _ (p : ModbusProto) (tag : List ℕ) (d : Driven) (reply : List ℕ) where
-  pub nothing-closed : d .length ≡ 0 → _≡_ {A = Driven × List ℕ} (d, reply) (closing p tag d reply (d .length))
-  nothing-closed e = rw e
+module _ (p : ModbusProto) (tag reply : List ℕ) where
+  pub nothing-closed : (n : ℕ) → n ≡ 0 → _≡_ {A = ℕ × List ℕ} (0, reply) (closing p tag reply n)
+  nothing-closed n e = rw e
 
-  abbrev whole : ℕ × List ℕ → Driven × List ℕ
-  whole x = (resulting (d .outcome) (d .code) (x .0), x .1)
-
-  some : (n : ℕ) → ¬ (n ≡ 0) → whole (around p n, sets reply 0 (wrap p tag (take n (drop (startOf p) reply)))) ≡ closing p tag d reply n
-  some zero h = absurd (h refl)
-  some (suc n) h = refl
-
-  pub frame-closed : ¬ (d .length ≡ 0) → (n : ℕ) (o : List ℕ)
-      → _≡_ {A = ℕ × List ℕ} (n, o) (around p (d .length), sets reply 0 (wrap p tag (take (d .length) (drop (startOf p) reply))))
-      → (r : Driven) → r ≡ resulting (d .outcome) (d .code) n → _≡_ {A = Driven × List ℕ} (r, o) (closing p tag d reply (d .length))
-  frame-closed h n o e r f = ap (λ (r : Driven). (r, o)) f ∙ ap whole e ∙ some (d .length) h
+  pub frame-closed : (n : ℕ) → ¬ (n ≡ 0)
+      → _≡_ {A = ℕ × List ℕ} (around p n, sets reply 0 (wrap p tag (take n (drop (startOf p) reply)))) (closing p tag reply n)
+  frame-closed zero h = absurd (h refl)
+  frame-closed (suc n) h = refl

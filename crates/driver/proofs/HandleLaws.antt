@@ -20,8 +20,8 @@ use Rattle.requests.specs.declared.Verdict.{Verdict}
 use Rattle.requests.specs.declared.Verdict.the-variants.{Quiet}
 use Rattle.driver.specs.declared.Setup.{Setup as Numbers}
 use Rattle.driver.specs.declared.Driven.{Driven}
-use Rattle.driver.specs.Driven.{lentIn, setupOf, Leaves, leaving}
-use Rattle.driver.specs.Serving.{Counted, Sized, Ready, serving, laid, closing, handled}
+use Rattle.driver.specs.Driven.{lentIn, setupOf, leaving}
+use Rattle.driver.specs.Serving.{Counted, Sized, Ready, telling, resultBy, serving, Laid, laying, laid, closing, handled}
 use Rattle.driver.proofs.CloseLaws.{tag-length, closes}
 use Rattle.driver.proofs.SettleLaws.{judged-ready, settles, brief}
 
@@ -47,17 +47,17 @@ module _ (n : Numbers) (list c d h i reply b : List ℕ) (y : (k : ℕ) → getD
   pub body-ready : Ready l b v
   body-ready = judged-ready n list l reply b b y sized x e v judges two
 
-  -- and of what was served: the result, the reply, the coils and the holdings
-  module _ (start : ℕ) (z : start ≡ startOf p) (r : Driven) (o c' h' : List ℕ) (f : leaving r o c' h' ≡ laid start reply (serving l x b v)) where
-    pub served-brief : r .length ≤ 253
-    served-brief = rw (ap (λ (g : Leaves). g .result .length) f) (brief l x b v body-ready)
+  -- and of what was served: the length of the reply's body, the reply, the coils and the holdings
+  module _ (start : ℕ) (z : start ≡ startOf p) (m : ℕ) (o c' h' : List ℕ) (f : laying m o c' h' ≡ laid start reply (serving l x b v)) where
+    pub served-brief : m ≤ 253
+    served-brief = rw (ap (λ (g : Laid). g .bodyLength) f) (brief l x b v body-ready)
 
     pub served-room : roomFor p ≤ length reply → roomFor p ≤ length o
-    served-room k = rw (ap (λ (g : Leaves). g .replyBytes) f, length-sets) k
+    served-room k = rw (ap (λ (g : Laid). g .replyBytes) f, length-sets) k
 
-    pub closed-handled : (high low : ℕ) → roomFor p ≤ length reply → (q : Driven) (w : List ℕ)
-        → _≡_ {A = Driven × List ℕ} (q, w) (closing p (tagOf p high low) r o (r .length))
-        → leaving q w c' h' ≡ handled n list (tagOf p high low) b l reply
-    closed-handled high low room q w g =
-        closes p (tagOf p high low) reply (tag-length p high low) room (serving l x b v) (brief l x b v body-ready) r o c' h' (rw z at f) q w g
+    pub closed-handled : (high low : ℕ) → roomFor p ≤ length reply → (n' : ℕ) (w : List ℕ)
+        → _≡_ {A = ℕ × List ℕ} (n', w) (closing p (tagOf p high low) o m) → (r : Driven) → r ≡ resultBy (telling x v) n'
+        → leaving r w c' h' ≡ handled n list (tagOf p high low) b l reply
+    closed-handled high low room n' w g r k =
+        closes p (tagOf p high low) reply (tag-length p high low) room (serving l x b v) (brief l x b v body-ready) m o c' h' (rw z at f) n' w g (telling x v) r k
         ∙ settles n list l reply (tagOf p high low) b y sized x e v judges

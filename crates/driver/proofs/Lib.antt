@@ -1,4 +1,5 @@
 pub mod ReplyLaws
+pub mod TellLaws
 pub mod UnitLaws
 pub mod ReadLaws
 pub mod ServeLaws

@@ -8,7 +8,7 @@ use lib.ListN.{length, take, drop, getD, length-take, length-drop}
 use lib.Seq.{sets, length-sets}
 use denote.Ref.{RefT, now}
 use Rattle.modbus.specs.Table.{Kind, bit, word, Tab, inputs, kindOf, part}
-use Rattle.modbus.specs.Request.{octets, shown, mostRead}
+use Rattle.modbus.specs.Request.{tabOf, octets, shown, mostRead}
 use Rattle.modbus.specs.Storage.{registers, registerAt, Sound}
 use Rattle.modbus.proofs.StepLaws.{pick-yes, pick-no}
 use Rattle.modbus.proofs.StorageLaws.{size-sound, length-part, store-length}
@@ -18,7 +18,6 @@ use Rattle.tables.specs.Calls.{named}
 use Rattle.tables.specs.Lent.{Lent, cellsOf, tablesOf}
 use Rattle.requests.specs.declared.ReadCells.{ReadCells}
 use Rattle.requests.specs.declared.Exchange.{Exchange}
-use Rattle.requests.specs.Judged.{tabOf}
 use Rattle.driver.specs.Serving.{putAt, ReadReady, readBody, swappedBy, swapBody}
 use Rattle.driver.proofs.ReplyLaws.{put-at, put-behind}
 

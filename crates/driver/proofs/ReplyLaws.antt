@@ -3,10 +3,10 @@
 -- Assumes nothing.
 use mathlib.Core.Path.{_≡_, refl, sym, ap, ap₂, _∙_}
 use mathlib.Core.List.{List, [], _∷_}
-use Prim.Native.Nat.{ℕ, suc, _+_, _*_, _/_, _≤_, _<_}
+use Prim.Native.Nat.{ℕ, suc, _+_, _-_, _*_, _/_, _≤_, _<_}
 use native.Mathlib.Omega.{arith}
-use lib.ListN.{length, take, drop, set}
-use lib.Seq.{sets}
+use lib.ListN.{length, take, drop, set, length-drop}
+use lib.Seq.{sets, length-take-le}
 use Rattle.modbus.specs.Table.{word, part}
 use Rattle.modbus.specs.Request.{octets, shown}
 use Rattle.modbus.specs.Paper.{toldWith}
@@ -71,6 +71,16 @@ pub stored-whole : (l : List ℕ) (cells reg count : ℕ) (d : List ℕ) → len
     → storedWhole l cells reg d ≡ stored registers l cells reg count d
 unfolding storedWhole
 stored-whole l cells reg count d e = let h : length d / 2 ≡ count = omega arith in rw h
+
+-- registers from a place in the body on
+pub words-put : (l : List ℕ) (cells : ℕ) → Sound registers l cells → (x : ℕ × ℕ) (o b : List ℕ) (from reg count : ℕ)
+    → _≡_ {A = Told} (x, o) (toldWith l (storedWhole l cells reg (take ((from + 2 * count) - from) (drop from b)))) → reg + count ≤ cells
+    → from + 2 * count ≤ length b → o ≡ store registers l reg (values word count (take (2 * count) (drop from b)))
+words-put l cells sound x o b from reg count e h k =
+    let d = take (2 * count) (drop from b) in
+    let z : (from + 2 * count) - from ≡ 2 * count = omega arith in
+    let n : length d ≡ 2 * count = length-take-le _ _ (simp length-drop (omega arith)) in
+    stored-put registers l cells sound x o reg count d ((rw z at e) ∙ ap (toldWith l) (stored-whole l cells reg count d n)) h n
 
 -- a single register
 pub single-word : (l b : List ℕ) (c : Cells) → c .at ≡ 4 → c .count ≡ 1 → 6 ≤ length b

@@ -2,7 +2,7 @@
 -- Assumes nothing.
 use mathlib.Core.Bool.{Bool, true, false}
 use mathlib.Core.Logic.{_⊎_, inl, inr, ⊎-elim, by-cases}
-use mathlib.Core.Path.{_≡_, refl, sym, ap, subst, _∙_}
+use mathlib.Core.Path.{_≡_, refl, sym, ap, ap₂, subst, _∙_}
 use mathlib.Core.List.{List, [], _∷_}
 use Prim.Native.Nat.{ℕ, _+_, _*_, _≤_, _<_}
 use native.Mathlib.Omega.{arith}
@@ -10,7 +10,7 @@ use lib.ListN.{length, take, drop, getD, length-take, length-drop}
 use lib.Seq.{sets, take-length}
 use Rattle.modbus.specs.Step.{Step, stop, go, choose, _≟_, _or?_}
 use Rattle.modbus.specs.Table.{Kind, bit, word, Tab, coils, discretes, holdings, inputs, kindOf, target, part}
-use Rattle.modbus.specs.Request.{Fn, reads, mask, code, Ask, read, masks, swaps, octets, shown, answer, seen, found, apply}
+use Rattle.modbus.specs.Request.{Fn, reads, mask, code, tabOf, Ask, read, write, writes, masks, swaps, octets, shown, writing, answer, seen, found, apply}
 use Rattle.modbus.specs.Setup.{Setup, proto}
 use Rattle.modbus.specs.Unit.{listed?, Broadcast, broadcast?, Ours}
 use Rattle.modbus.specs.Decode.{Message, foreign, readIgnored, wrongLength, badFunction, outcomeOf, IsRead, asked}
@@ -23,7 +23,7 @@ use Rattle.modbus.proofs.StorageLaws.{length-part}
 use Rattle.modbus.proofs.AnswerLaws.{length-shown}
 use Rattle.modbus.specs.Storage.{registers, registerAt, Sound, storage, store, values}
 use Rattle.tables.specs.Lent.{Lent, tableOf, tablesOf}
-use Rattle.requests.specs.Judged.{tabOf, On, on?, refusedBy, ignored, weighed, kept, keptBy, judged}
+use Rattle.requests.specs.Judged.{On, on?, refusedBy, ignored, weighed, kept, keptBy, judged}
 use Rattle.requests.specs.declared.ReadCells.{ReadCells}
 use Rattle.requests.specs.declared.Cells.{Cells}
 use Rattle.requests.specs.declared.Mask.{Mask}
@@ -35,7 +35,7 @@ use Rattle.requests.proofs.JudgedLaws.{on, off, tab-of}
 use Rattle.requests.proofs.FineLaws.{went, FineRead, FineWrite, FineMask, FineBoth, Fine, fine}
 use Rattle.driver.specs.declared.Setup.{Setup as Numbers}
 use Rattle.driver.specs.Driven.{setupOf, bytesAfter, resultOf, Leaves, leaving, settled}
-use Rattle.driver.specs.Serving.{Sized, ReadReady, Ready, readBody, dataOf, maskedBy, swappedBy, echoed, doneBy, Turn, turn, serving}
+use Rattle.driver.specs.Serving.{Sized, ReadReady, Ready, readBody, dataOf, maskedBy, swappedBy, echoed, doneBy, Telling, tells, telling, Turn, turn, serving}
 use Rattle.driver.proofs.ReadLaws.{octets-most}
 use Rattle.driver.proofs.StoreLaws.{stored-target, stored-other, found-after, echoes, mask-echoes}
 use Rattle.driver.proofs.CloseLaws.{closed}
@@ -111,14 +111,17 @@ module _ (n : Numbers) (list : List ℕ) (l : Lent) (reply tag b : List ℕ) whe
   abbrev message : Message
   message = record { tag = tag; body = b }
 
-  abbrev done : Turn → Leaves
-  done t = closed (proto set) tag reply t
+  abbrev done : Telling → Turn → Leaves
+  done d t = closed (proto set) tag reply d t
+
+  abbrev doing : Bool → Verdict → Leaves
+  doing x v = done (telling x v) (serving l x b v)
 
   abbrev kept-leaving : Result → Leaves
   kept-leaving r = leaving (resultOf r) (sets reply 0 (r .reply)) (l .coilBytes) (l .holdingBytes)
 
   unmeant : (x : Bool) → ¬ (Broadcast set (getD b 0 0) ⊎ Ours set (getD b 0 0))
-      → settled set l reply (fromUnit set message) ≡ done (serving l x b (Quiet 4 0))
+      → settled set l reply (fromUnit set message) ≡ doing x (Quiet 4 0)
   unfolding settle
   unmeant x k = ap (settled set l reply) (fail _ _ _ k)
 
@@ -129,18 +132,21 @@ module _ (n : Numbers) (list : List ℕ) (l : Lent) (reply tag b : List ℕ) whe
   answered false a = getD b 0 0 ∷ answer a (found a (seen (apply a (tablesOf l))))
 
   abbrev served : Bool → Ask → Turn
-  served x a = turn (doneBy x) 0 (answered x a) (bytesAfter l a coils) (bytesAfter l a holdings)
+  served x a = turn (answered x a) (bytesAfter l a coils) (bytesAfter l a holdings)
+
+  abbrev told : Bool → Ask → Telling
+  told x a = tells (doneBy x) 0 (writing a)
 
   abbrev leaving-after : Ask → Result → Leaves
   leaving-after a r = leaving (resultOf r) (sets reply 0 (r .reply)) (bytesAfter l a coils) (bytesAfter l a holdings)
 
-  go-done : (x : Bool) (a : Ask) → Addressed set (getD b 0 0) x → settled set l reply (go (message, a)) ≡ done (served x a)
+  go-done : (x : Bool) (a : Ask) → Addressed set (getD b 0 0) x → settled set l reply (go (message, a)) ≡ done (told x a) (served x a)
   unfolding settle
   go-done x a (inl (p, e)) = rw e (ap (leaving-after a) (pick-yes _ _ _ p))
   go-done x a (inr (p, q, e)) = rw e (ap (leaving-after a) (pick-no _ _ _ p))
 
   -- a fault with a code
-  coded-done : (x : Bool) (c : ℕ) → Addressed set (getD b 0 0) x → settled set l reply (stop (coded message c)) ≡ done (serving l x b (refusedBy x c))
+  coded-done : (x : Bool) (c : ℕ) → Addressed set (getD b 0 0) x → settled set l reply (stop (coded message c)) ≡ doing x (refusedBy x c)
   unfolding settle
   coded-done x c (inl (p, e)) = rw e (ap kept-leaving (pick-yes _ _ _ p))
   coded-done x c (inr (p, q, e)) = rw e (ap kept-leaving (pick-no _ _ _ p))
@@ -158,11 +164,11 @@ module _ (n : Numbers) (list : List ℕ) (l : Lent) (reply tag b : List ℕ) whe
     heeded : (fn : Fn) → ¬ (On x × IsRead fn) → ¬ (Broadcast set (getD b 0 0) × IsRead fn)
     heeded fn o h = o (is-on (h .0), h .1)
 
-    stops : {v : Verdict} (f : Fault) (w : Verdict) → settled set l reply (stop f) ≡ done (serving l x b w) → fromUnit set message ≡ stop f → w ≡ v
-        → settled set l reply (fromUnit set message) ≡ done (serving l x b v)
-    stops f w d e q = ap (settled set l reply) e ∙ d ∙ ap (λ (w : Verdict). done (serving l x b w)) q
+    stops : {v : Verdict} (f : Fault) (w : Verdict) → settled set l reply (stop f) ≡ doing x w → fromUnit set message ≡ stop f → w ≡ v
+        → settled set l reply (fromUnit set message) ≡ doing x v
+    stops f w d e q = ap (settled set l reply) e ∙ d ∙ ap (doing x) q
 
-    unit-stop : {v : Verdict} → weighed set x b ≡ stop v → settled set l reply (fromUnit set message) ≡ done (serving l x b v)
+    unit-stop : {v : Verdict} → weighed set x b ≡ stop v → settled set l reply (fromUnit set message) ≡ doing x v
     unfolding weighed settle
     unit-stop {v} e =
         needed-stop _ _ _ e (λ k q. stops (quiet badFunction) _ refl (pass _ _ _ heard ∙ fail _ _ _ k) q)
@@ -203,7 +209,7 @@ module _ (n : Numbers) (list : List ℕ) (l : Lent) (reply tag b : List ℕ) whe
   read-serves false q f =
       let e : tabOf (q .function) ≡ f .tab = ap tabOf (f .function) ∙ tab-of (f .tab) in
       let n = length-part (tablesOf l (f .tab)) (q .address) (q .count) in
-      ap (λ (y : List ℕ). turn 0 0 y (l .coilBytes) (l .holdingBytes)) (rw (e, f .numbered, n))
+      ap (λ (y : List ℕ). turn y (l .coilBytes) (l .holdingBytes)) (rw (e, f .numbered, n))
 
   module _ (bytes : (i : ℕ) → getD b i 0 < 256) (k : Kind) (x : Bool) (c : Cells) (f : FineWrite k set x b c) where
     write-echoed : (x : Bool) → answered x (asked (f .fn) b) ≡ echoed x 6 b
@@ -220,9 +226,9 @@ module _ (n : Numbers) (list : List ℕ) (l : Lent) (reply tag b : List ℕ) whe
   apart : ¬ (coils ≡ holdings)
   apart e = let z : _≡_ {A = ℕ} 0 1 = cc in omega arith
 
-  -- outcome and code of a write, its echo, and the bytes of two tables
-  four : (x : Bool) {p p' c c' h h' : List ℕ} → p ≡ p' → c ≡ c' → h ≡ h' → turn (doneBy x) 0 p c h ≡ turn (doneBy x) 0 p' c' h'
-  four x e f g = rw (e, f, g)
+  -- the body of a reply, and the bytes of two tables
+  three : {p p' c c' h h' : List ℕ} → p ≡ p' → c ≡ c' → h ≡ h' → turn p c h ≡ turn p' c' h'
+  three e f g = rw (e, f, g)
 
   module _ (bytes : (i : ℕ) → getD b i 0 < 256) (x : Bool) (m : Mask) (f : FineMask set x b m) where
     mask-echoed : (x : Bool) → answered x (asked mask b) ≡ echoed x 8 b
@@ -234,7 +240,7 @@ module _ (n : Numbers) (list : List ℕ) (l : Lent) (reply tag b : List ℕ) whe
     mask-stored = ap (λ (a : Ask). bytesAfter l a holdings) (f .asks) ∙ pick-yes _ _ _ refl
 
     mask-serves : served x (asked mask b) ≡ serving l x b (Masked m)
-    mask-serves = four x (mask-echoed x) (pick-no _ _ _ apart) mask-stored
+    mask-serves = three (mask-echoed x) (pick-no _ _ _ apart) mask-stored
 
   module _ (sound : Sound registers (l .holdingBytes) (l .holdingCells)) (y : Exchange) where
     abbrev asks : Ask
@@ -253,7 +259,19 @@ module _ (n : Numbers) (list : List ℕ) (l : Lent) (reply tag b : List ℕ) whe
         let h = store registers (l .holdingBytes) (y .«write_address») (values word (y .«write_count») d) in
         let g = found-after l sound (y .«read_address») (y .«read_count») (y .«write_address») (values word (y .«write_count») d) (f .fits) (f .inside) (rw c (f .within)) in
         let n = length-part (registerAt h) (y .«read_address») (y .«read_count») in
-        four false (ap replying g ∙ (rw (n, e, f .numbered))) (pick-no _ _ _ apart) (pick-yes _ _ _ refl ∙ (rw e))
+        three (ap replying g ∙ (rw (n, e, f .numbered))) (pick-no _ _ _ apart) (pick-yes _ _ _ refl ∙ (rw e))
+
+  -- outcome, code and the cells written
+  tells-kept : (x : Bool) (a : Ask) → Fine set x b (kept a) → told x a ≡ telling x (kept a)
+  tells-kept true (read t s n) f = absurd (f .own tt)
+  tells-kept false (read t s n) f = refl
+  tells-kept x (write bit a v) f = refl
+  tells-kept x (write word a v) f = refl
+  tells-kept x (writes bit s vs) f = refl
+  tells-kept x (writes word s vs) f = refl
+  tells-kept x (masks a y z) f = refl
+  tells-kept true (swaps r n s vs) f = absurd (f .own tt)
+  tells-kept false (swaps r n s vs) f = refl
 
   serves : ((i : ℕ) → getD b i 0 < 256) → Sized l → (x : Bool) (v : Verdict) → Fine set x b v → (a : Ask) → weighed set x b ≡ go a
       → served x a ≡ serving l x b v
@@ -263,10 +281,10 @@ module _ (n : Numbers) (list : List ℕ) (l : Lent) (reply tag b : List ℕ) whe
   serves bytes sized x (Written (Bits c)) f a e =
       let z : a ≡ asked (f .fn) b = let g = f .goes in cc in
       ap (served x) z
-      ∙ four x (write-echoed bytes bit x c f x) (write-target bytes bit x c f) (write-other bytes bit x c f holdings (λ h. apart (sym h)))
+      ∙ three (write-echoed bytes bit x c f x) (write-target bytes bit x c f) (write-other bytes bit x c f holdings (λ h. apart (sym h)))
   serves bytes sized x (Written (Words c)) f a e =
       let z : a ≡ asked (f .fn) b = let g = f .goes in cc in
-      ap (served x) z ∙ four x (write-echoed bytes word x c f x) (write-other bytes word x c f coils apart) (write-target bytes word x c f)
+      ap (served x) z ∙ three (write-echoed bytes word x c f x) (write-other bytes word x c f coils apart) (write-target bytes word x c f)
   serves bytes sized x (Masked m) f a e =
       let z : a ≡ asked mask b = let g = f .goes in cc in
       ap (served x) z ∙ mask-serves bytes x m f
@@ -280,22 +298,22 @@ module _ (n : Numbers) (list : List ℕ) (l : Lent) (reply tag b : List ℕ) whe
   module _ (bytes : (i : ℕ) → getD b i 0 < 256) (sized : Sized l) (x : Bool) (listed : x ≡ choose (listed? (getD b 0 0) list) true false) (v : Verdict)
       (judges : v ≡ choose (on? x or? (getD b 0 0 ≟ n .unit)) (judged set x b) (Quiet 4 0)) where
     settles-to : Addressed set (getD b 0 0) x → (w : Step Verdict Ask) → weighed set x b ≡ w
-        → settled set l reply (fromUnit set message) ≡ done (serving l x b (keptBy w))
+        → settled set l reply (fromUnit set message) ≡ doing x (keptBy w)
     unfolding judged
     settles-to to (stop u) e = unit-stop x to e
     settles-to to (go a) e =
         let f : Fine set x b (kept a) = fine set x b bytes {r = judged set x b} refl (ap keptBy e) in
-        ap (settled set l reply) (unit-go x to e) ∙ go-done x a to ∙ ap done (serves bytes sized x (kept a) f a e)
+        ap (settled set l reply) (unit-go x to e) ∙ go-done x a to ∙ ap₂ done (tells-kept x a f) (serves bytes sized x (kept a) f a e)
 
-    pub settles : done (serving l x b v) ≡ settled set l reply (fromUnit set message)
+    pub settles : doing x v ≡ settled set l reply (fromUnit set message)
     unfolding judged
     settles =
         by-cases (on? x or? (getD b 0 0 ≟ n .unit))
         (λ h.
-        ap (λ (u : Verdict). done (serving l x b u)) (judges ∙ pick-yes _ _ _ h)
+        ap (doing x) (judges ∙ pick-yes _ _ _ h)
         ∙ sym (settles-to (meant n list l reply (getD b 0 0) x listed h) (weighed set x b) refl))
         (λ k.
-        ap (λ (u : Verdict). done (serving l x b u)) (judges ∙ pick-no _ _ _ k)
+        ap (doing x) (judges ∙ pick-no _ _ _ k)
         ∙ sym (unmeant x (meant-not n list l reply (getD b 0 0) x listed k)))
 
     pub judged-ready : 2 ≤ length b → Ready l b v

@@ -8,6 +8,7 @@ use Rattle.modbus.specs.Step.{Step, stop, go, choose}
 use Rattle.modbus.specs.Table.{Tab, tab?, coils, holdings, Range}
 use Rattle.modbus.specs.Request.{Ask, writing, given}
 use Rattle.modbus.specs.Storage.{storage, store}
+use Rattle.modbus.specs.Paper.{rangePaper}
 use Rattle.modbus.specs.Setup.{Setup}
 use Rattle.modbus.specs.Decode.{Message}
 use Rattle.modbus.specs.Drive.{Fault, Result, judge, settle}
@@ -45,9 +46,16 @@ abbrev pub bytesBy : Lent → Step Fault (Message × Ask) → Tab → List ℕ
 bytesBy l (stop x) t = tableOf l t
 bytesBy l (go (m, a)) t = bytesAfter l a t
 
--- document 01's outcome and code, and the reply's length
+-- a record of these numbers: the reply's length; document 01's outcome and code; the table, the first and the number of the cells written
+abbrev pub making : ℕ → ℕ → ℕ → ℕ → ℕ → ℕ → Driven
+making n outcome code table first count =
+    record { length = n; outcome = outcome; code = code; table = table; first = first; count = count }
+
+abbrev pub resulting : ℕ → ℕ → ℕ → List Range → Driven
+resulting outcome code n w = making n outcome code (rangePaper w .0) (rangePaper w .1) (rangePaper w .2)
+
 abbrev pub resultOf : Result → Driven
-resultOf r = record { length = length (r .reply); outcome = r .outcome; code = r .exceptionCode }
+resultOf r = resulting (r .outcome) (r .exceptionCode) (length (r .reply)) (r .changed)
 
 -- the result, and the reply buffer, the coils and the holdings as bytes: a reply stands at the front of its buffer
 pub record Leaves : Type 0 where

@@ -3,18 +3,17 @@
 use mathlib.Core.Bool.{Bool, true, false}
 use mathlib.Core.Path.{_≡_}
 use mathlib.Core.List.{List, [], _∷_}
-use Prim.Native.Nat.{ℕ, zero, suc, _+_, _*_, _≤_}
+use Prim.Native.Nat.{ℕ, zero, suc, _+_, _*_, _/_, _%_, _≤_}
 use lib.ListN.{length, take, drop, getD}
 use lib.Seq.{sets}
-use Rattle.modbus.specs.Table.{Kind, bit, word, Tab, coils, discretes, holdings, inputs, kindOf, target, part}
-use Rattle.modbus.specs.Request.{octets, masked, shown, exception, mostRead}
+use Rattle.modbus.specs.Table.{Kind, bit, word, Tab, coils, discretes, holdings, inputs, kindOf, target, Range, part}
+use Rattle.modbus.specs.Request.{tabOf, octets, masked, shown, exception, mostRead}
 use Rattle.modbus.specs.Storage.{Sound, packed, registers, registerAt, putRegister, storage, store, values}
 use Rattle.modbus.specs.Setup.{Setup, roomFor}
 use Rattle.modbus.specs.Frame.{wrap, tagOf, startOf, around}
 use Rattle.modbus.specs.Drive.{fromUnit}
 use Rattle.modbus.specs.declared.ModbusProto.{ModbusProto}
 use Rattle.tables.specs.Lent.{Lent, tableOf, tablesOf, cellsOf}
-use Rattle.requests.specs.Judged.{tabOf}
 use Rattle.requests.specs.declared.ReadCells.{ReadCells}
 use Rattle.requests.specs.declared.Cells.{Cells}
 use Rattle.requests.specs.declared.Mask.{Mask}
@@ -25,10 +24,7 @@ use Rattle.requests.specs.declared.Verdict.{Verdict}
 use Rattle.requests.specs.declared.Verdict.the-variants.{Read, Written, Masked, Exchanged, Refused, Quiet}
 use Rattle.driver.specs.declared.Setup.{Setup as Numbers}
 use Rattle.driver.specs.declared.Driven.{Driven}
-use Rattle.driver.specs.Driven.{setupOf, Leaves, leaving, settled}
-
-abbrev pub resulting : ℕ → ℕ → ℕ → Driven
-resulting outcome code n = record { length = n; outcome = outcome; code = code }
+use Rattle.driver.specs.Driven.{setupOf, making, resulting, Leaves, settled}
 
 -- a setup with these numbers of cells
 abbrev pub Counted : Setup → Numbers → Type 0
@@ -63,10 +59,6 @@ pub record MaskReady (l : Lent) (b : List ℕ) (m : Mask) : Type 0 where
   pub inside : m .address + 1 ≤ l .holdingCells
   pub whole : 8 ≤ length b
 
--- the write of a write and read: its data stand at 11
-abbrev pub writeIn : Exchange → Cells
-writeIn x = record { address = x .«write_address»; count = x .«write_count»; at = 11 }
-
 pub record BothReady (l : Lent) (b : List ℕ) (x : Exchange) : Type 0 where
   pub most : x .«read_count» ≤ mostRead word
   pub inside : x .«read_address» + x .«read_count» ≤ l .holdingCells
@@ -81,6 +73,41 @@ Ready l b (Masked m) = MaskReady l b m
 Ready l b (Exchanged x) = BothReady l b x
 Ready l b (Refused c) = (2 ≤ length b) × (getD b 1 0 ≤ 127)
 Ready l b (Quiet o c) = Unit {0}
+
+-- ---- what it tells: outcome, code and the cells that it writes
+
+pub record Telling : Type 0 where
+  pub outcome : ℕ
+  pub code : ℕ
+  pub changed : List Range
+
+abbrev pub tells : ℕ → ℕ → List Range → Telling
+tells o x w = record { outcome = o; code = x; changed = w }
+
+abbrev pub doneBy : Bool → ℕ
+doneBy true = 1
+doneBy false = 0
+
+abbrev pub run : Tab → ℕ → ℕ → List Range
+run t first count = record { tab = t; first = first; count = count } ∷ []
+
+abbrev pub telling : Bool → Verdict → Telling
+telling broadcast (Read q) = tells 0 0 []
+telling broadcast (Written (Bits c)) = tells (doneBy broadcast) 0 (run coils (c .address) (c .count))
+telling broadcast (Written (Words c)) = tells (doneBy broadcast) 0 (run holdings (c .address) (c .count))
+telling broadcast (Masked m) = tells (doneBy broadcast) 0 (run holdings (m .address) 1)
+telling broadcast (Exchanged x) = tells 0 0 (run holdings (x .«write_address») (x .«write_count»))
+telling broadcast (Refused c) = tells 2 c []
+telling broadcast (Quiet o c) = tells o c []
+
+-- the result, once the length of the reply is known
+abbrev pub resultBy : Telling → ℕ → Driven
+resultBy t n = resulting (t .outcome) (t .code) n (t .changed)
+
+-- the same from one number, which has them lowest byte first: a byte each for outcome, code and table, one that is left out, two bytes each for the
+-- first cell and for how many
+abbrev pub unpacked : ℕ → ℕ → Driven
+unpacked w n = making n (w % 256) (w / 256 % 256) (w / 65536 % 256) (w / 4294967296 % 65536) (w / 281474976710656)
 
 -- ---- what it leaves
 
@@ -108,9 +135,9 @@ storedBy w b c h = (coilsBy w b c, holdingsBy w b h)
 abbrev pub maskedBy : Mask → List ℕ → List ℕ
 maskedBy m l = putRegister l (m .address) (masked (registerAt l (m .address)) (m .«and_mask») (m .«or_mask»))
 
--- a write and read: the registers written, and the reply, which is read off these
+-- a write and read: the registers written, whose values stand at 11, and the reply, which is read off these
 abbrev pub swappedBy : Exchange → List ℕ → List ℕ → List ℕ
-swappedBy x b l = store registers l (x .«write_address») (dataOf word b (writeIn x))
+swappedBy x b l = store registers l (x .«write_address») (values word (x .«write_count») (take (2 * x .«write_count») (drop 11 b)))
 
 abbrev pub swapBody : Exchange → List ℕ → List ℕ → List ℕ
 swapBody x b l =
@@ -121,45 +148,41 @@ abbrev pub echoed : Bool → ℕ → List ℕ → List ℕ
 echoed true n b = []
 echoed false n b = take n b
 
-abbrev pub doneBy : Bool → ℕ
-doneBy true = 1
-doneBy false = 0
-
-abbrev pub answeredAt : ℕ → List ℕ → Bool → ℕ → List ℕ → Driven × List ℕ
-answeredAt start reply broadcast n b =
-    (resulting (doneBy broadcast) 0 (length (echoed broadcast n b)), sets reply start (echoed broadcast n b))
-
--- outcome, code, and the reply's body from the unit on; the coils and the holdings
+-- the reply's body from the unit on; the coils and the holdings
 pub record Turn : Type 0 where
-  pub outcome : ℕ
-  pub code : ℕ
   pub body : List ℕ
   pub coilBytes : List ℕ
   pub holdingBytes : List ℕ
 
-abbrev pub turn : ℕ → ℕ → List ℕ → List ℕ → List ℕ → Turn
-turn o x b c h = record { outcome = o; code = x; body = b; coilBytes = c; holdingBytes = h }
+abbrev pub turn : List ℕ → List ℕ → List ℕ → Turn
+turn b c h = record { body = b; coilBytes = c; holdingBytes = h }
 
 abbrev pub serving : Lent → Bool → List ℕ → Verdict → Turn
-serving l broadcast b (Read q) = turn 0 0 (readBody l (tabOf (q .function)) b (q .address) (q .count)) (l .coilBytes) (l .holdingBytes)
-serving l broadcast b (Written w) =
-    turn (doneBy broadcast) 0 (echoed broadcast 6 b) (coilsBy w b (l .coilBytes)) (holdingsBy w b (l .holdingBytes))
-serving l broadcast b (Masked m) = turn (doneBy broadcast) 0 (echoed broadcast 8 b) (l .coilBytes) (maskedBy m (l .holdingBytes))
-serving l broadcast b (Exchanged x) = turn 0 0 (swapBody x b (l .holdingBytes)) (l .coilBytes) (swappedBy x b (l .holdingBytes))
-serving l broadcast b (Refused c) = turn 2 c (getD b 0 0 ∷ exception (getD b 1 0) c) (l .coilBytes) (l .holdingBytes)
-serving l broadcast b (Quiet o c) = turn o c [] (l .coilBytes) (l .holdingBytes)
+serving l broadcast b (Read q) = turn (readBody l (tabOf (q .function)) b (q .address) (q .count)) (l .coilBytes) (l .holdingBytes)
+serving l broadcast b (Written w) = turn (echoed broadcast 6 b) (coilsBy w b (l .coilBytes)) (holdingsBy w b (l .holdingBytes))
+serving l broadcast b (Masked m) = turn (echoed broadcast 8 b) (l .coilBytes) (maskedBy m (l .holdingBytes))
+serving l broadcast b (Exchanged x) = turn (swapBody x b (l .holdingBytes)) (l .coilBytes) (swappedBy x b (l .holdingBytes))
+serving l broadcast b (Refused c) = turn (getD b 0 0 ∷ exception (getD b 1 0) c) (l .coilBytes) (l .holdingBytes)
+serving l broadcast b (Quiet o c) = turn [] (l .coilBytes) (l .holdingBytes)
 
--- the reply's body laid into the reply from its start on; the length is the body's
-abbrev pub laid : ℕ → List ℕ → Turn → Leaves
-laid start reply t =
-    leaving (resulting (t .outcome) (t .code) (length (t .body))) (sets reply start (t .body)) (t .coilBytes) (t .holdingBytes)
+-- the reply's body laid into the reply from its start on, and its length
+pub record Laid : Type 0 where
+  pub bodyLength : ℕ
+  pub replyBytes : List ℕ
+  pub coilBytes : List ℕ
+  pub holdingBytes : List ℕ
+
+abbrev pub laying : ℕ → List ℕ → List ℕ → List ℕ → Laid
+laying n o c h = record { bodyLength = n; replyBytes = o; coilBytes = c; holdingBytes = h }
+
+abbrev pub laid : ℕ → List ℕ → Turn → Laid
+laid start reply t = laying (length (t .body)) (sets reply start (t .body)) (t .coilBytes) (t .holdingBytes)
 
 -- ---- and closed: the frame around the body, where there is one
 
-abbrev pub closing : ModbusProto → List ℕ → Driven → List ℕ → ℕ → Driven × List ℕ
-closing p tag r reply zero = (r, reply)
-closing p tag r reply (suc n) =
-    (resulting (r .outcome) (r .code) (around p (suc n)), sets reply 0 (wrap p tag (take (suc n) (drop (startOf p) reply))))
+abbrev pub closing : ModbusProto → List ℕ → List ℕ → ℕ → ℕ × List ℕ
+closing p tag reply zero = (0, reply)
+closing p tag reply (suc n) = (around p (suc n), sets reply 0 (wrap p tag (take (suc n) (drop (startOf p) reply))))
 
 -- ---- the setup's test, in the order in which it is made
 

@@ -1,6 +1,4 @@
 // The last stage: a reply's body, which stands at its place in the reply, becomes a frame.
-use crate::Driven;
-use crate::result;
 use transports::seal;
 ghost use mathlib.Core.Path.{_≡_};
 ghost use Prim.Native.Nat.{_≤_};
@@ -10,14 +8,13 @@ ghost use Rattle.modbus.specs.Frame.{tagOf};
 ghost use Rattle.modbus.specs.Setup.{roomFor};
 ghost use Rattle.driver.specs.Serving.{closing};
 
-// The result of serving has the length of the body; this one has the frame's. Without a body nothing is sent.
-pub(crate) fn close(transport: u8, served: Driven, frame: &[u8], reply: &mut [u8]) -> Driven
-    requires { ⌜ (served .length ≤ 253) × (roomFor (protoOf transport) ≤ length (now reply)) × (2 ≤ length (now frame)) ⌝ }
-    ensures { λ r. ⌜ (r, now (reply .exit)) ≡ closing (protoOf transport) (tagOf (protoOf transport) (getD (now (frame .entry)) 0 0) (getD (now (frame .entry)) 1 0)) served (now (reply .entry)) (served .length) ⌝ }
+// A body of `n` bytes; answers the frame's length. Without a body nothing is sent.
+pub(crate) fn close(transport: u8, n: usize, frame: &[u8], reply: &mut [u8]) -> usize
+    requires { ⌜ (n ≤ 253) × (roomFor (protoOf transport) ≤ length (now reply)) × (2 ≤ length (now frame)) ⌝ }
+    ensures { λ r. ⌜ (r, now (reply .exit)) ≡ closing (protoOf transport) (tagOf (protoOf transport) (getD (now (frame .entry)) 0 0) (getD (now (frame .entry)) 1 0)) (now (reply .entry)) n ⌝ }
 {
-    if served.length == 0 {
-        return served;
+    if n == 0 {
+        return 0;
     }
-    let n = seal(transport, frame[0], frame[1], served.length as u8, reply);
-    result(served.outcome, served.code, n)
+    seal(transport, frame[0], frame[1], n as u8, reply)
 }

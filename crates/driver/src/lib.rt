@@ -3,6 +3,7 @@ mod close;
 mod judge;
 mod open;
 mod serve;
+mod tell;
 
 use close::close;
 use judge::judge;
@@ -10,6 +11,8 @@ use judge::listed;
 use open::bad_setup;
 use open::no_room;
 use serve::serve;
+use tell::result;
+use tell::tell;
 use transports::body_source;
 use transports::open;
 use transports::start_of;
@@ -20,7 +23,7 @@ ghost use Rattle.modbus.specs.Paper.{protoOf};
 ghost use Rattle.modbus.specs.Frame.{tagOf, startOf};
 ghost use Rattle.modbus.specs.Setup.{roomFor};
 ghost use Rattle.driver.specs.Driven.{lentIn, leaving, called};
-ghost use Rattle.driver.specs.Serving.{Sized, resulting, handled};
+ghost use Rattle.driver.specs.Serving.{Sized, handled};
 
 // The setup's numbers: the transport (0 RTU, 1 ASCII, 2 TCP), our unit number on it, the switch for digits a-f of ASCII frames (0 strict, 1
 // lenient), and how many cells each table is said to have.
@@ -35,23 +38,16 @@ pub struct Setup {
     pub input_cells: usize,
 }
 
-// What became of a request: the reply's length, and document 01's outcome and code.
+// What became of a request: the reply's length, document 01's outcome and code, and the cells that it wrote: their table, by the number of the function
+// that reads it, the first, and how many; without a write these are 0.
 #[repr(C)]
 pub struct Driven {
     pub length: usize,
     pub outcome: u8,
     pub code: u8,
-}
-
-// The one place where a result is made.
-pub(crate) fn result(outcome: u8, code: u8, length: usize) -> Driven
-    ensures { λ r. ⌜ r ≡ resulting outcome code length ⌝ }
-{
-    Driven {
-        length: length,
-        outcome: outcome,
-        code: code,
-    }
+    pub table: u8,
+    pub first: u16,
+    pub count: u16,
 }
 
 // A frame that is opened, to this body; `start` is where a body starts in the transport's frames. One call of each stage, which the compiler then
@@ -76,7 +72,8 @@ fn handle(
 {
     let broadcast = listed(list, body[0]);
     let verdict = judge(setup, broadcast, body);
-    let served = serve(
+    let told = tell(verdict, broadcast);
+    let n = serve(
         verdict,
         broadcast,
         setup,
@@ -88,7 +85,8 @@ fn handle(
         reply,
         start,
     );
-    close(setup.transport, served, frame, reply)
+    let sent = close(setup.transport, n, frame, reply);
+    result(told, sent)
 }
 
 pub fn drive(
@@ -112,15 +110,15 @@ pub fn drive(
         holdings.len(),
         inputs.len(),
     ) {
-        return result(10, 0, 0);
+        return result(10, 0);
     }
     if no_room(setup.transport, reply.len()) {
-        return result(9, 0, 0);
+        return result(9, 0);
     }
     let mut raw = [0u8; 256];
     let n = open(setup.transport, setup.hex, frame, &mut raw);
     if n < 2 {
-        return result(n as u8 + 5, 0, 0);
+        return result(n as u64 + 5, 0);
     }
     let start = start_of(setup.transport);
     let end = start + n;

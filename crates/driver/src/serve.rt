@@ -1,8 +1,6 @@
 // The third stage: a verdict is carried out. No other is lent tables, and nothing is left to refuse here: the cells lie inside the tables, so every
 // call on them succeeds. The reply's body goes straight to its place in the reply, which starts at `start`.
-use crate::Driven;
 use crate::Setup;
-use crate::result;
 use octets::word;
 use requests::Cells;
 use requests::Exchange;
@@ -23,12 +21,11 @@ ghost use Prim.Native.Nat.{ℕ, _+_, _*_, _/_, _≤_};
 ghost use lib.ListN.{length, take, getD};
 ghost use lib.Seq.{sets};
 ghost use Rattle.modbus.specs.Table.{bit, word};
-ghost use Rattle.modbus.specs.Request.{exception};
+ghost use Rattle.modbus.specs.Request.{tabOf, exception};
 ghost use Rattle.modbus.specs.Storage.{Sound, packed, registers, store};
 ghost use Rattle.requests.specs.declared.Verdict.the-variants as verdict;
-ghost use Rattle.driver.specs.Driven.{lentIn, leaving};
-ghost use Rattle.requests.specs.Judged.{tabOf};
-ghost use Rattle.driver.specs.Serving.{Sized, putAt, ReadReady, Ready, readBody, dataOf, storedBy, maskedBy, swappedBy, swapBody, answeredAt, serving, laid};
+ghost use Rattle.driver.specs.Driven.{lentIn};
+ghost use Rattle.driver.specs.Serving.{Sized, putAt, ReadReady, Ready, readBody, dataOf, storedBy, maskedBy, swappedBy, swapBody, echoed, serving, laying, laid};
 
 // An exception: the function's number with its highest bit set, and a code.
 fn refuse(body: &[u8], code: u8, reply: &mut [u8], start: usize) -> usize
@@ -188,29 +185,25 @@ fn exchange(
     requires { ⌜ (x .«read_count» ≤ 125) × (x .«read_address» + x .«read_count» ≤ cells) × (x .«write_address» + x .«write_count» ≤ cells) × (11 + 2 * x .«write_count» ≤ length (now body)) × (start + 253 ≤ length (now reply)) × Sound registers (now holdings) cells ⌝ }
     ensures { λ r. ⌜ ((r, now (reply .exit)) ≡ putAt start (now (reply .entry)) (swapBody x (now (body .entry)) (now (holdings .entry)))) × (now (holdings .exit) ≡ swappedBy x (now (body .entry)) (now (holdings .entry))) ⌝ }
 {
-    let c = Cells {
-        address: x.write_address,
-        count: x.write_count,
-        at: 11,
-    };
-    write_words(c, cells, body, holdings);
+    let from = 11 + 2 * (x.write_count as usize);
+    set_holdings_from_u8(holdings, cells, x.write_address, &body[11..from]);
     let at = 2 * (x.read_address as usize);
     let end = at + 2 * (x.read_count as usize);
     read_words(body, x.read_count, &holdings[at..end], reply, start)
 }
 
 // A write is done: `n` bytes are echoed, and to a broadcast number nothing is sent.
-fn written(broadcast: bool, body: &[u8], n: usize, reply: &mut [u8], start: usize) -> Driven
+fn written(broadcast: bool, body: &[u8], n: usize, reply: &mut [u8], start: usize) -> usize
     requires { ⌜ (n ≤ length (now body)) × (start + n ≤ length (now reply)) ⌝ }
-    ensures { λ r. ⌜ (r, now (reply .exit)) ≡ answeredAt start (now (reply .entry)) broadcast n (now (body .entry)) ⌝ }
+    ensures { λ r. ⌜ (r, now (reply .exit)) ≡ putAt start (now (reply .entry)) (echoed broadcast n (now (body .entry))) ⌝ }
 {
     if broadcast {
-        return result(1, 0, 0);
+        return 0;
     }
-    result(0, 0, echo(body, n, reply, start))
+    echo(body, n, reply, start)
 }
 
-// The length of the result is that of the reply's body, 0 where nothing is sent.
+// Answers the length of the reply's body, 0 where nothing is sent.
 pub(crate) fn serve(
     v: Verdict,
     broadcast: bool,
@@ -222,27 +215,23 @@ pub(crate) fn serve(
     inputs: &[u8],
     reply: &mut [u8],
     start: usize,
-) -> Driven
+) -> usize
     requires { ⌜ Ready (lentIn setup (now coils) (now discretes) (now holdings) (now inputs)) (now body) v × (start + 253 ≤ length (now reply)) ⌝ }
     requires { ⌜ Sized (lentIn setup (now coils) (now discretes) (now holdings) (now inputs)) ⌝ }
-    ensures { λ r. ⌜ leaving r (now (reply .exit)) (now (coils .exit)) (now (holdings .exit)) ≡ laid start (now (reply .entry))
+    ensures { λ r. ⌜ laying r (now (reply .exit)) (now (coils .exit)) (now (holdings .exit)) ≡ laid start (now (reply .entry))
         (serving (lentIn setup (now (coils .entry)) (now (discretes .entry)) (now (holdings .entry)) (now (inputs .entry))) broadcast (now (body .entry)) v) ⌝ }
 {
     match v {
-        Verdict::Read(q) => result(
-            0,
-            0,
-            read(
-                q,
-                setup,
-                body,
-                coils,
-                discretes,
-                holdings,
-                inputs,
-                reply,
-                start,
-            ),
+        Verdict::Read(q) => read(
+            q,
+            setup,
+            body,
+            coils,
+            discretes,
+            holdings,
+            inputs,
+            reply,
+            start,
         ),
         Verdict::Written(w) => {
             write(w, setup, body, coils, holdings);
@@ -252,12 +241,8 @@ pub(crate) fn serve(
             write_mask(m, setup.holding_cells, holdings);
             written(broadcast, body, 8, reply, start)
         }
-        Verdict::Exchanged(x) => result(
-            0,
-            0,
-            exchange(x, setup.holding_cells, body, holdings, reply, start),
-        ),
-        Verdict::Refused(code) => result(2, code, refuse(body, code, reply, start)),
-        Verdict::Quiet(outcome, code) => result(outcome, code, 0),
+        Verdict::Exchanged(x) => exchange(x, setup.holding_cells, body, holdings, reply, start),
+        Verdict::Refused(code) => refuse(body, code, reply, start),
+        Verdict::Quiet(_, _) => 0,
     }
 }

@@ -1,12 +1,12 @@
 -- Laws of the driver's parts: a silent fault, and what each way out settles.
 -- Assumes nothing.
 use mathlib.Core.Path.{_≡_, refl, ap}
-use mathlib.Core.List.{List}
+use mathlib.Core.List.{List, []}
 use Prim.Native.Nat.{ℕ, _≤_, _<_}
 use native.Mathlib.Omega.{arith}
 use Rattle.modbus.specs.Step.{Step, stop, go}
 use Rattle.modbus.specs.Table.{Tables}
-use Rattle.modbus.specs.Request.{Ask, apply}
+use Rattle.modbus.specs.Request.{Ask, writing, apply}
 use Rattle.modbus.specs.Setup.{Setup}
 use Rattle.modbus.specs.Decode.{Message, Silent, readIgnored, foreign, frameBroken, frameCheck, wrongLength, badFunction, noRoom, badSetup, outcomeOf}
 use Rattle.modbus.specs.Drive.{Fault, quiet, coded, quietly, judge, Result, settle}
@@ -62,6 +62,16 @@ go-low s t m a = either (λ (r : Result). r .outcome < 2) _ _ _ (λ _. omega ari
 pub go-after : (s : Setup) (t : Tables) (m : Message) (a : Ask) → settle s t (go (m, a)) .after ≡ apply a t
 unfolding settle
 go-after s t m a = either (λ (r : Result). r .after ≡ apply a t) _ _ _ (λ _. refl) (λ _. refl)
+
+-- the cells written are told of what is served, and of nothing else
+pub stop-changed : (s : Setup) (t : Tables) (x : Fault) → settle s t (stop x) .changed ≡ []
+unfolding settle
+stop-changed s t (quiet o) = refl
+stop-changed s t (coded m c) = either (λ (r : Result). r .changed ≡ []) _ _ _ (λ _. refl) (λ _. refl)
+
+pub go-changed : (s : Setup) (t : Tables) (m : Message) (a : Ask) → settle s t (go (m, a)) .changed ≡ writing a
+unfolding settle
+go-changed s t m a = either (λ (r : Result). r .changed ≡ writing a) _ _ _ (λ _. refl) (λ _. refl)
 
 -- a frame is judged to stop or to go through
 pub by-judge : {C : Type 0} (s : Setup) (f : List ℕ) → ((x : Fault) → judge s f ≡ stop x → C)

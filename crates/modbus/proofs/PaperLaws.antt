@@ -5,7 +5,9 @@ use mathlib.Core.List.{List}
 use Prim.Native.Nat.{ℕ, _≤_}
 use native.Mathlib.Omega.{arith}
 use Rattle.modbus.specs.Step.{Step, stop, go, _≤?_}
-use Rattle.modbus.specs.Paper.{number, transport, protoOf, told, toldKind, toldWith, bytePaper, hexPaper, sizePaper, badTransport, protoAsked}
+use Rattle.modbus.specs.Table.{bit, word}
+use Rattle.modbus.specs.Request.{Ask, read, write, writes, masks, swaps, writing}
+use Rattle.modbus.specs.Paper.{number, transport, protoOf, told, toldKind, toldWith, bytePaper, hexPaper, sizePaper, badTransport, protoAsked, rangePaper, rangeTold}
 use Rattle.modbus.specs.declared.ErrorKind.{ErrorKind}
 use Rattle.modbus.specs.declared.ErrorKind.the-variants.{OOB, OOBContext, FrameBroken, FrameCRCError, IllegalDataValue, ReadCallOnWriteFrame, WriteCallOnReadFrame}
 use Rattle.modbus.specs.declared.ModbusProto.{ModbusProto}
@@ -108,3 +110,13 @@ proto-found n p e = by (n ≤? 2)
 
 pub proto-refused : (n : ℕ) → badTransport ≡ protoAsked n → ¬ (n ≤ 2)
 proto-refused n e h = omega (arith, ap (λ (a : ℕ × ℕ). a .0) (e ∙ pick-yes _ _ _ h))
+
+-- the numbers of what a request writes tell it
+pub range-told : (a : Ask) → rangeTold (rangePaper (writing a) .0) (rangePaper (writing a) .1) (rangePaper (writing a) .2) ≡ writing a
+range-told (read t s n) = refl
+range-told (write bit a v) = refl
+range-told (write word a v) = refl
+range-told (writes bit s vs) = refl
+range-told (writes word s vs) = refl
+range-told (masks a x y) = refl
+range-told (swaps r n s vs) = refl

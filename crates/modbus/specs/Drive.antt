@@ -72,26 +72,30 @@ judge s f = do
   m ← quietly (unwrap (proto s) (spelled s f))
   fromUnit s m
 
--- an outcome, its exception code, the reply and the tables afterwards
+-- an outcome, its exception code, the reply, the tables afterwards, and the cells that were written (document 02, 2026-07), whether or not their
+-- values were others before
 pub record Result : Type 0 where
   pub outcome : ℕ
   pub exceptionCode : ℕ
   pub reply : List ℕ
   pub after : Tables
+  pub changed : List Range
 
-abbrev pub silently : ℕ → ℕ → Tables → Result
-silently o x t = record { outcome = o; exceptionCode = x; reply = []; after = t }
+abbrev pub silently : ℕ → ℕ → Tables → List Range → Result
+silently o x t w = record { outcome = o; exceptionCode = x; reply = []; after = t; changed = w }
 
-abbrev pub replying : Setup → Message → ℕ → ℕ → List ℕ → Tables → Result
-replying s m o x pdu t = record { outcome = o; exceptionCode = x; reply = wrap (proto s) (m .tag) (unitOf m ∷ pdu); after = t }
+abbrev pub replying : Setup → Message → ℕ → ℕ → List ℕ → Tables → List Range → Result
+replying s m o x pdu t w =
+    record { outcome = o; exceptionCode = x; reply = wrap (proto s) (m .tag) (unitOf m ∷ pdu); after = t; changed = w }
 
 -- only outcomes 0 and 1 may change cells; a broadcast is never answered; the answer is read off the tables after the write
 unfoldable pub settle : Setup → Tables → Step Fault (Message × Ask) → Result
-settle s t (stop (quiet o)) = silently (outcomeOf o) 0 t
+settle s t (stop (quiet o)) = silently (outcomeOf o) 0 t []
 settle s t (stop (coded m x)) =
-    choose (broadcast? s (unitOf m)) (silently 3 x t) (replying s m 2 x (exception (numberOf m) x) t)
+    choose (broadcast? s (unitOf m)) (silently 3 x t []) (replying s m 2 x (exception (numberOf m) x) t [])
 settle s t (go (m, a)) =
-    choose (broadcast? s (unitOf m)) (silently 1 0 (apply a t)) (replying s m 0 0 (answer a (found a (seen (apply a t)))) (apply a t))
+    choose (broadcast? s (unitOf m)) (silently 1 0 (apply a t) (writing a))
+    (replying s m 0 0 (answer a (found a (seen (apply a t)))) (apply a t) (writing a))
 
 unfoldable pub drive : Setup → Tables → List ℕ → Result
 drive s t f = settle s t (judge s f)

@@ -2,9 +2,11 @@
 -- value holds and a refusal's value is 0.
 -- Assumes nothing.
 use mathlib.Core.Bool.{Bool, true, false}
-use mathlib.Core.List.{List}
+use mathlib.Core.List.{List, [], _∷_}
 use Prim.Native.Nat.{ℕ, zero, suc}
 use Rattle.modbus.specs.Step.{Step, stop, go, choose, _≤?_}
+use Rattle.modbus.specs.Table.{Range}
+use Rattle.modbus.specs.Request.{reads, code, tabOf}
 use Rattle.modbus.specs.declared.ErrorKind.{ErrorKind}
 use Rattle.modbus.specs.declared.ErrorKind.the-variants.{OOB, OOBContext, FrameBroken, FrameCRCError, IllegalDataValue, ReadCallOnWriteFrame, WriteCallOnReadFrame}
 use Rattle.modbus.specs.declared.ModbusProto.{ModbusProto}
@@ -102,3 +104,15 @@ protoAsked n = choose (n ≤? 2) (0, n) badTransport
 abbrev pub toldWith : List ℕ → Step ErrorKind (ℕ × List ℕ) → (ℕ × ℕ) × List ℕ
 toldWith l (go (v, m)) = ((0, v), m)
 toldWith l (stop k) = ((number k, 0), l)
+
+-- ---- the cells that a request wrote (document 02, 2026-07)
+
+-- the table by the number of the function that reads it, so 1 for coils and 3 for holdings; the first cell; how many. Without a range all are 0
+abbrev pub rangePaper : List Range → ℕ × ℕ × ℕ
+rangePaper [] = (0, 0, 0)
+rangePaper (r ∷ l) = (code (reads (r .tab)), r .first, r .count)
+
+-- the range that these numbers tell
+abbrev pub rangeTold : ℕ → ℕ → ℕ → List Range
+rangeTold zero first count = []
+rangeTold (suc n) first count = record { tab = tabOf (suc n); first = first; count = count } ∷ []

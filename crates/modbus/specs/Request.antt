@@ -3,7 +3,7 @@
 -- Assumes nothing.
 use mathlib.Core.Path.{_≡_}
 use mathlib.Core.List.{List, [], _∷_, _++_}
-use Prim.Native.Nat.{ℕ, _+_, _-_, _*_, _/_, _≤_}
+use Prim.Native.Nat.{ℕ, zero, suc, _+_, _-_, _*_, _/_, _≤_}
 use lib.ListN.{length, replicate}
 use lib.Bits.{bitAnd, bitOr}
 use Rattle.modbus.specs.Bytes.{All, two, twos, pack}
@@ -27,6 +27,14 @@ code (many bit) = 15
 code (many word) = 16
 code mask = 22
 code both = 23
+
+-- the table that a read's number names
+abbrev pub tabOf : ℕ → Tab
+tabOf zero = inputs
+tabOf (suc zero) = coils
+tabOf (suc (suc zero)) = discretes
+tabOf (suc (suc (suc zero))) = holdings
+tabOf (suc (suc (suc (suc n)))) = inputs
 
 -- those that a server offers on a transport (document 01, "Functions served"; document 02, 2026-05)
 abbrev pub offered : ModbusProto → List Fn

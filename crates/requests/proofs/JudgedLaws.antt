@@ -10,7 +10,7 @@ use lib.ListN.{length, getD, drop, List·getD-eq-default}
 use Rattle.modbus.specs.Step.{Step, go, _>>_, need, choose, _≤?_, _and?_, not?}
 use Rattle.modbus.specs.Bytes.{wordAt}
 use Rattle.modbus.specs.Table.{Kind, bit, word, Tab, coils, discretes, holdings, inputs, target, Range}
-use Rattle.modbus.specs.Request.{Fn, reads, one, many, both, code, Ask, read, write, reading, writing}
+use Rattle.modbus.specs.Request.{Fn, reads, one, many, both, code, tabOf, Ask, read, write, reading, writing}
 use Rattle.modbus.specs.Storage.{datum, values}
 use Rattle.modbus.specs.Setup.{Setup, proto}
 use Rattle.modbus.specs.Decode.{wrongLength, outcomeOf, IsRead, isRead?, Lengthy, lengthy?, Valued, valued?, asked}
@@ -18,7 +18,7 @@ use Rattle.modbus.specs.Drive.{AllWithin, Inside, inside?}
 use Rattle.modbus.proofs.StepLaws.{pass, fail, follow, halt, pick-yes, pick-no}
 use Rattle.modbus.proofs.StorageLaws.{length-part}
 use Rattle.modbus.proofs.FindLaws.{code-low, none, find-fn, find-none}
-use Rattle.requests.specs.Judged.{On, on?, tabOf, refusedBy, ignored, weighed, kindBy, writeOf, kept, keptBy, judged}
+use Rattle.requests.specs.Judged.{On, on?, refusedBy, ignored, weighed, kindBy, writeOf, kept, keptBy, judged}
 use Rattle.requests.specs.declared.Verdict.{Verdict}
 use Rattle.requests.specs.declared.Verdict.the-variants.{Written, Exchanged, Refused, Quiet}
 

@@ -2,10 +2,10 @@
 -- Assumes nothing.
 use mathlib.Core.Bool.{Bool, true, false}
 use mathlib.Core.List.{List, [], _∷_}
-use Prim.Native.Nat.{ℕ, zero, suc}
+use Prim.Native.Nat.{ℕ}
 use lib.ListN.{length, getD}
 use Rattle.modbus.specs.Step.{Step, stop, go, _>>=_, _>>_, need, _≤?_, _and?_, not?}
-use Rattle.modbus.specs.Table.{Kind, bit, word, Tab, coils, discretes, holdings, inputs}
+use Rattle.modbus.specs.Table.{Kind, bit, word}
 use Rattle.modbus.specs.Request.{reads, mask, both, code, offered, Ask, read, write, writes, masks, swaps}
 use Rattle.modbus.specs.Setup.{Setup, proto}
 use Rattle.modbus.specs.Decode.{readIgnored, wrongLength, badFunction, outcomeOf, isRead?, lengthy?, valued?, asked}
@@ -42,14 +42,6 @@ weighed s broadcast b = do
   need (valued? fn b) (refusedBy broadcast 3)
   need (inside? s (asked fn b)) (refusedBy broadcast 2)
   go (asked fn b)
-
--- the table that a read's number names
-abbrev pub tabOf : ℕ → Tab
-tabOf zero = inputs
-tabOf (suc zero) = coils
-tabOf (suc (suc zero)) = discretes
-tabOf (suc (suc (suc zero))) = holdings
-tabOf (suc (suc (suc (suc n)))) = inputs
 
 -- bits or words
 abbrev pub kindBy : Bool → Kind

@@ -104,19 +104,21 @@ fn drive(n: usize, seed: u64) {
     let mut put = |call: drive::record::Call| {
         let (answer, panicked) = drive::answer::answer(&call).unwrap_or_else(|why| fail(&format!("{why}: {call}")));
         out.bytes(&call.record(&answer));
-        if let Some((way, left)) = &answer.difference {
-            let (count, shortest, said) = ways.entry(way).or_default();
+        let Answer { outcome, code, named, .. } = answer;
+        let mut differs = |way, said: &dyn Fn() -> String| {
+            let (count, shortest, shown) = ways.entry(way).or_default();
             *count += 1;
             if *count == 1 || (call.frame.len(), &call.frame) < (shortest.len(), shortest) {
-                let cells = if left.coils == answer.left.coils && left.holdings == answer.left.holdings {
-                    ""
-                } else {
-                    "; stored"
-                };
-                let Answer { outcome, code, .. } = answer;
-                *said = format!("reply {}{cells} | outcome {outcome}, code {code}", hex(&left.reply));
-                *shortest = call.frame;
+                *shown = format!("{} | outcome {outcome}, code {code}", said());
+                shortest.clone_from(&call.frame);
             }
+        };
+        if let Some((way, left)) = &answer.difference {
+            let stored = left.coils != answer.left.coils || left.holdings != answer.left.holdings;
+            differs(way, &|| format!("reply {}{}", hex(&left.reply), if stored { "; stored" } else { "" }));
+        }
+        if let Some((way, changes)) = answer.renamed {
+            differs(way, &|| format!("{changes:?}, and the result {named:?}"));
         }
         if let Some(stage) = panicked {
             *panics.entry(stage).or_default() += 1;
@@ -130,7 +132,7 @@ fn drive(n: usize, seed: u64) {
     let mut chance = Chance(seed);
     while put(drive::random::random(&mut chance)) < n {}
     out.flush();
-    for way in drive::answer::WAYS {
+    for way in drive::answer::WAYS.into_iter().chain(drive::answer::RENAMED) {
         let Some((count, shortest, said)) = ways.get(way) else {
             fail(&format!("the crate never differed by this: {way}"))
         };
@@ -140,7 +142,12 @@ fn drive(n: usize, seed: u64) {
         let Some(count) = panics.get(stage) else { fail(&format!("the crate never panicked in {stage}")) };
         eprintln!("{count:8} panics in {stage}");
     }
-    eprintln!("the crate differs in {} known ways and panics in {} places", ways.len(), panics.len());
+    let renamed = drive::answer::RENAMED.len();
+    let ways = ways.len() - renamed;
+    eprintln!(
+        "the crate differs in {ways} known ways, its changes in {renamed}, and panics in {} places",
+        panics.len()
+    );
 }
 
 /// Says at the end how often the crate differed in each way, with the smallest call met.

@@ -13,6 +13,7 @@ use Rattle.driver.specs.declared.Driven.{Driven}
 use Rattle.driver.specs.Driven.{lentIn, leaving}
 use Rattle.driver.specs.Serving.{handled}
 use Rattle.driver.proofs.OpenLaws.{start-most, part-long, part-same, good-valid, valid-good, valid-sized}
+use Rattle.driver.proofs.TellLaws.{outcome-alone}
 use Rattle.driver.proofs.CallLaws.{bad-called, roomless-called, unopened-called, opened-called}
 use Rattle.driver.proofs.drive.Statement.{statement}
 use Rattle.driver.proofs.drive.Tie as tie
@@ -40,7 +41,7 @@ returns-3 c =
     let l = lentIn (a .setup) (a .coils .now) (a .discretes .now) (a .holdings .now) (a .inputs .now) in
     let v = good-valid (a .setup) (a .list .now) (a .coils .now) (a .discretes .now) (a .holdings .now) (a .inputs .now) (a .reply .now) (c .before .before .before .before .before .before .before .bad-setup .ensures .1 (c .before .before .before .before .before .before .if1 .left)) in
     let r = c .before .before .before .before .before .no-room .ensures .1 (c .before .before .before .before .if2 .left) in
-    ap (λ (d : Driven). leaving d (a .reply .now) (a .coils .now) (a .holdings .now)) (c .result3 .ensures) ∙ unopened-called (a .setup) (a .list .now) l (a .frame .now) (a .reply .now) v r _ (c .before .before .«open» .ensures .0) (c .before .if3 .taken)
+    ap (λ (d : Driven). leaving d (a .reply .now) (a .coils .now) (a .holdings .now)) (c .result3 .ensures ∙ outcome-alone _ (omega (arith, c .before .if3 .taken))) ∙ unopened-called (a .setup) (a .list .now) l (a .frame .now) (a .reply .now) v r _ (c .before .before .«open» .ensures .0) (c .before .if3 .taken)
 
 add-end : tie.Need-add-end
 add-end c =
@@ -84,4 +85,4 @@ returns-4 c =
     ∙ opened-called (a .setup) (a .list .now) l (a .frame .now) (a .reply .now) v r tag _ (b .0)
 
 pub drive-spec : {M : Type 1} → statement M
-drive-spec = tie.close (tie.spec (λ c κs. search needs) (λ c κs. search needs) returns (λ c κs. search needs) (λ c κs. search needs) returns-2 (λ c κs. search needs) (λ c. search needs) (λ c. search needs) (λ c κs. search needs) returns-3 (λ c κs. search needs) add-end (λ c. search needs) (λ c κs. search needs) (λ c. search needs) (λ c. search needs) part-handle-end handle-requires (λ c. search needs) (λ c. search needs) (λ c. search needs) returns-4)
+drive-spec = tie.close (tie.spec (λ c κs. search needs) (λ c κs. search needs) returns (λ c κs. search needs) (λ c κs. search needs) returns-2 (λ c κs. search needs) (λ c. search needs) (λ c κs. search needs) returns-3 (λ c κs. search needs) add-end (λ c. search needs) (λ c κs. search needs) (λ c. search needs) (λ c. search needs) part-handle-end handle-requires (λ c. search needs) (λ c. search needs) (λ c. search needs) returns-4)

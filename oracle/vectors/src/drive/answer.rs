@@ -1,5 +1,6 @@
 //! The answer expected of a call: document 01's. The crate's reply and tables must be the same, or differ in one of
-//! WAYS, and nowhere else than where document 01 refuses what the crate takes.
+//! WAYS, and nowhere else than where document 01 refuses what the crate takes. After a write that both serve, the
+//! crate's `changes` must name the cells that the result names; elsewhere it may differ in one of RENAMED.
 use super::model::*;
 use super::record::*;
 use super::wire::word;
@@ -36,25 +37,46 @@ pub const WAYS: [&str; 21] = [
     FUNCTION_22, FUNCTION_23,
 ];
 
+const REFUSED: &str = "changes names a write that was refused";
+const UNKNOWN: &str = "changes names nothing of functions 22 and 23";
+const UNREAD: &str = "changes names nothing of a TCP frame that parse refuses";
+
+/// Every way in which its `changes` differs from the cells that the result names, each to come up in a stream.
+pub const RENAMED: [&str; 3] = [REFUSED, UNKNOWN, UNREAD];
+
 /// The stages of the crate that panic, each to come up in a stream.
 pub const PANICS: [&str; 4] = ["parse_ascii_frame", "parse", "process_write", "finalize_response"];
 
 /// The answer, and where the crate panicked. Under the lenient switch the crate is given the text in capitals.
 pub fn answer(call: &Call) -> Result<(Answer, Option<&'static str>), String> {
-    let (outcome, code, said) = model::drive(call);
+    let (outcome, code, named, said) = model::drive(call);
     let call = &call.in_capitals();
-    let (left, panicked) = chain::ask(call);
+    let (left, panicked, changes) = chain::ask(call);
     let known = lenient::left(call);
     if known.0 != left || known.1 != panicked {
         return Err("what the crate does is not known".into());
     }
-    // where there is no difference, the bytes recorded are the crate's own
+    // where there is no difference, the bytes and the cells named that are recorded are the crate's own
+    let renamed = if changes == named { None } else { Some((renaming(call, outcome, named)?, changes)) };
+    let named = if renamed.is_none() { changes } else { named };
     let answer = if left == said {
-        Answer { outcome, code, left, difference: None }
+        Answer { outcome, code, named, left, difference: None, renamed }
     } else {
-        Answer { outcome, code, left: said, difference: Some((way(call, outcome, code)?, left)) }
+        Answer { outcome, code, named, left: said, difference: Some((way(call, outcome, code)?, left)), renamed }
     };
     Ok((answer, panicked))
+}
+
+/// The way in which `changes` differs from the cells that the result names. Of a write that both serve there is none.
+fn renaming(call: &Call, outcome: u8, named: Cells) -> Result<&'static str, String> {
+    let served = outcome == ANSWERED || outcome == BROADCAST_DONE;
+    let function = lenient::seen(call).map_or(0, |body| body[1]);
+    match function {
+        5 | 6 | 15 | 16 if !served && named == NO_CELLS => Ok(REFUSED),
+        22 | 23 if served => Ok(UNKNOWN),
+        _ if served && call.transport == TCP && call.frame.len() > 256 => Ok(UNREAD),
+        _ => Err(format!("changes does not name {named:?} after outcome {outcome}")),
+    }
 }
 
 /// The way in which the crate differs, told by document 01's answer and the frame.

@@ -1,5 +1,5 @@
-//! Document 01's driver, with document 02's functions 22 and 23 and its switch for lower case, written plainly from the
-//! pages.
+//! Document 01's driver, with document 02's functions 22 and 23, its switch for lower case and the cells that a result
+//! names, written plainly from the pages.
 use super::record::*;
 use super::wire::*;
 use crate::record::{ASCII, LENIENT, RTU};
@@ -29,8 +29,8 @@ pub fn table_of(function: u8) -> usize {
     }
 }
 
-/// Outcome, code, and what is left.
-pub fn drive(call: &Call) -> (u8, u8, Left) {
+/// Outcome, code, the cells written, and what is left.
+pub fn drive(call: &Call) -> (u8, u8, Cells, Left) {
     let (outcome, code, body) = match opened(call) {
         Ok(body) => {
             let (outcome, code) = judge(call, &body);
@@ -47,7 +47,21 @@ pub fn drive(call: &Call) -> (u8, u8, Left) {
     if outcome == ANSWERED || outcome == EXCEPTION {
         left.reply = wrap(call.transport, transaction(call.transport, &call.frame), &reply);
     }
-    (outcome, code, left)
+    let named = if outcome == ANSWERED || outcome == BROADCAST_DONE { written(&body) } else { NO_CELLS };
+    (outcome, code, named, left)
+}
+
+/// The cells that a request writes once it is served.
+fn written(body: &[u8]) -> Cells {
+    let cells = |table, first, count| (table, word(body, first) as u16, count);
+    match body[1] {
+        5 => cells(1, 2, 1),
+        15 => cells(1, 2, word(body, 4) as u16),
+        6 | 22 => cells(3, 2, 1),
+        16 => cells(3, 2, word(body, 4) as u16),
+        23 => cells(3, 6, word(body, 8) as u16),
+        _ => NO_CELLS,
+    }
 }
 
 fn opened(call: &Call) -> Result<Vec<u8>, u8> {

@@ -12,6 +12,8 @@
 //!     byte 12      1: the coils are expected to change, 2: the holdings, 0: neither
 //!     bytes 13-44  cells and slice length (4 bytes each) of coils, discretes, holdings, inputs
 //!     byte 45      the switch for lower case; under 1 the crate was given the text in capitals
+//!     byte 46      the table of which cells are expected to be named: 1 coils, 3 holdings, 0 none
+//!     bytes 47-50  the first of them, and how many
 //!     then the list, the frame, the four tables before the call, the reply expected and, where byte 12 says so, the
 //!     table as expected after it.
 //!     Before the call byte i of the lent reply buffer is (0x5A + i) % 256.
@@ -34,6 +36,11 @@ pub struct Call {
     pub frame: Vec<u8>,
 }
 
+/// The cells that a result names: the table by the function that reads it, the first, how many. None is all zeros.
+pub type Cells = (u8, u16, u16);
+
+pub const NO_CELLS: Cells = (0, 0, 0);
+
 /// What a call answers and leaves. Discretes and inputs are never written.
 #[derive(Clone, PartialEq)]
 pub struct Left {
@@ -45,9 +52,12 @@ pub struct Left {
 pub struct Answer {
     pub outcome: u8,
     pub code: u8,
+    pub named: Cells,
     pub left: Left,
     /// The way in which the crate differs, if it does, and what it leaves.
     pub difference: Option<(&'static str, Left)>,
+    /// The way in which its `changes` differs, if it does, and what that names.
+    pub renamed: Option<(&'static str, Cells)>,
 }
 
 impl Call {
@@ -80,6 +90,9 @@ impl Call {
             r.extend((table.bytes.len() as u32).to_be_bytes());
         }
         r.push(self.hex);
+        let (table, first, count) = answer.named;
+        r.push(table);
+        r.extend([first, count].map(u16::to_be_bytes).concat());
         r.extend(&self.list);
         r.extend(&self.frame);
         for table in lent {

@@ -1,8 +1,6 @@
 -- `driver::close::close` meets its contract: without a body nothing is sent, and every body fits.
 -- Assumes nothing.
-use mathlib.Core.Path.{_≡_, ap, ap₂, _∙_}
-use mathlib.Core.List.{List}
-use Prim.Native.Nat.{ℕ}
+use mathlib.Core.Path.{_∙_}
 use lib.ListN.{getD}
 use borrow.Author.Needs.{needs}
 use Rattle.modbus.specs.Paper.{protoOf}
@@ -14,18 +12,19 @@ use Rattle.driver.proofs.close.close.Tie as tie
 
 returns : tie.Need-returns
 returns c =
-    let a = c .before .before .before .before .args in
+    let a = c .before .before .before .args in
     let p = protoOf (a .transport) in
-    nothing-closed p (tagOf p (getD (a .frame .now) 0 0) (getD (a .frame .now) 1 0)) (a .served) (a .reply .now) (c .if1 .taken)
+    nothing-closed p (tagOf p (getD (a .frame .now) 0 0) (getD (a .frame .now) 1 0)) (a .reply .now) (a .n) (c .if1 .taken)
 
 returns-2 : tie.Need-returns-2
 returns-2 c =
-    let s = c .before .before .before .before .before .before .before .before .before .before .before .before in
+    let s = c .before .before .before .before .before .before .before .before .before in
     let a = s .args in
     let p = protoOf (a .transport) in
     let tag = tagOf p (getD (a .frame .now) 0 0) (getD (a .frame .now) 1 0) in
-    let e = c .before .before .before .seal .ensures ∙ sealed-room p tag (a .served .length) (a .reply .now) (s .pre .1) (s .pre .0) in
-    frame-closed p tag (a .served) (a .reply .now) (c .before .before .before .before .before .before .before .before .if1 .left) _ _ e _ (c .result .ensures)
+    c .before .before .seal .ensures
+    ∙ sealed-room p tag (a .n) (a .reply .now) (s .pre .1) (s .pre .0)
+    ∙ frame-closed p tag (a .reply .now) (a .n) (c .before .before .before .before .before .before .if1 .left)
 
 pub close-spec : {M : Type 1} → statement M
-close-spec = tie.close (tie.spec returns (λ c. search needs) (λ c. search needs) (λ c. search needs) (λ c κs. search needs) (λ c κs. search needs) (λ c. search needs) returns-2)
+close-spec = tie.close (tie.spec returns (λ c. search needs) (λ c. search needs) (λ c. search needs) (λ c κs. search needs) (λ c. search needs) returns-2)

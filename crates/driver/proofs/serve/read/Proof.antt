@@ -5,10 +5,10 @@ use Prim.Native.Nat.{ℕ, _+_, _≤_, _<_}
 use native.Mathlib.Omega.{arith}
 use lib.ListN.{length, getD}
 use borrow.Author.Needs.{needs}
+use Rattle.modbus.specs.Request.{tabOf}
 use Rattle.modbus.specs.Table.{coils, discretes, holdings, inputs}
 use Rattle.modbus.specs.Storage.{packed}
 use Rattle.driver.specs.Driven.{lentIn}
-use Rattle.requests.specs.Judged.{tabOf}
 use Rattle.driver.proofs.ReplyLaws.{added-put}
 use Rattle.driver.proofs.ReadLaws.{inside, brief, head-room, cells-read, words-ready, words-read, named-holdings, named-inputs, inputs-left}
 use Rattle.driver.proofs.serve.read.Statement.{statement}

@@ -1,17 +1,14 @@
 -- `driver::serve::serve` meets its contract, verdict by verdict.
 -- Assumes nothing.
 use mathlib.Core.Path.{ap, subst}
-use mathlib.Core.List.{_∷_}
+use mathlib.Core.List.{List}
+use Prim.Native.Nat.{ℕ}
 use native.Mathlib.Omega.{arith}
-use lib.ListN.{getD}
 use borrow.Author.Needs.{needs}
 use Rattle.modbus.specs.Table.{coils, holdings}
-use Rattle.modbus.specs.Request.{exception}
-use Rattle.driver.specs.declared.Driven.{Driven}
-use Rattle.driver.specs.Driven.{lentIn, leaving}
-use Rattle.requests.specs.Judged.{tabOf}
-use Rattle.driver.specs.Serving.{Ready, readBody}
-use Rattle.driver.proofs.ServeLaws.{write-ready, write-whole, replied, wrote, masked-wrote, swapped}
+use Rattle.driver.specs.Driven.{lentIn}
+use Rattle.driver.specs.Serving.{Ready, serving}
+use Rattle.driver.proofs.ServeLaws.{write-ready, write-whole, laid-by}
 use Rattle.driver.proofs.serve.serve.Statement.{statement}
 use Rattle.driver.proofs.serve.serve.Tie as tie
 
@@ -73,42 +70,36 @@ refuse-requires c κs =
 
 returns : tie.Need-returns
 returns c =
-    let a = c .before .before .before .before .before .before .before .before .before .before .before .before .before .before .before .before .args in
-    let l = lentIn (a .setup) (a .coils .now) (a .discretes .now) (a .holdings .now) (a .inputs .now) in
-    let q = c .before .before .before .before .before .before .before .before .v .given .0 .0 in
-    let x = readBody l (tabOf (q .function)) (a .body .now) (q .address) (q .count) in
-    rw (c .before .before .before .before .before .before .before .before .v .given .1) (replied (a .start) (a .reply .now) (a .coils .now) (a .holdings .now) x 0 0 _ _ (c .result .ensures) (c .before .before .before .read .ensures))
+    let a = c .before .before .before .before .before .before .before .before .before .before .before .before .before .before .before .args in
+    laid-by (a .start) (a .reply .now) (serving (lentIn (a .setup) (a .coils .now) (a .discretes .now) (a .holdings .now) (a .inputs .now)) (a .broadcast) (a .body .now) (a .v)) _ _ _
+    (rw (c .before .before .before .before .before .before .before .v .given .1) (c .before .before .read .ensures)) (rw (c .before .before .before .before .before .before .before .v .given .1)) (rw (c .before .before .before .before .before .before .before .v .given .1))
 
 returns-2 : tie.Need-returns-2
 returns-2 c =
     let a = c .before .before .before .before .before .before .before .before .before .before .before .before .before .before .before .before .before .before .before .before .args in
-    let l = lentIn (a .setup) (a .coils .now) (a .discretes .now) (a .holdings .now) (a .inputs .now) in
-    rw (c .before .before .before .before .before .before .before .before .before .before .before .before .v2 .given .1) (wrote l (a .start) (a .reply .now) (a .broadcast) (a .body .now) (c .before .before .before .before .before .before .before .before .before .before .before .before .v2 .given .0 .0) _ _ (c .before .before .written .ensures) (c .before .before .before .before .before .before .before .before .write .ensures))
+    laid-by (a .start) (a .reply .now) (serving (lentIn (a .setup) (a .coils .now) (a .discretes .now) (a .holdings .now) (a .inputs .now)) (a .broadcast) (a .body .now) (a .v)) _ _ _
+    (rw (c .before .before .before .before .before .before .before .before .before .before .before .before .v2 .given .1) (c .before .before .written .ensures)) (rw (c .before .before .before .before .before .before .before .before .before .before .before .before .v2 .given .1) (ap (λ (p : List ℕ × List ℕ). p .0) (c .before .before .before .before .before .before .before .before .write .ensures))) (rw (c .before .before .before .before .before .before .before .before .before .before .before .before .v2 .given .1) (ap (λ (p : List ℕ × List ℕ). p .1) (c .before .before .before .before .before .before .before .before .write .ensures)))
 
 returns-3 : tie.Need-returns-3
 returns-3 c =
     let a = c .before .before .before .before .before .before .before .before .before .before .before .before .before .before .before .before .before .args in
-    let l = lentIn (a .setup) (a .coils .now) (a .discretes .now) (a .holdings .now) (a .inputs .now) in
-    rw (c .before .before .before .before .before .before .before .before .before .v3 .given .1) (masked-wrote l (a .start) (a .reply .now) (a .broadcast) (a .body .now) (c .before .before .before .before .before .before .before .before .before .v3 .given .0 .0) _ _ (c .before .before .written2 .ensures) (c .before .before .before .before .before .before .write-mask .ensures))
+    laid-by (a .start) (a .reply .now) (serving (lentIn (a .setup) (a .coils .now) (a .discretes .now) (a .holdings .now) (a .inputs .now)) (a .broadcast) (a .body .now) (a .v)) _ _ _
+    (rw (c .before .before .before .before .before .before .before .before .before .v3 .given .1) (c .before .before .written2 .ensures)) (rw (c .before .before .before .before .before .before .before .before .before .v3 .given .1)) (rw (c .before .before .before .before .before .before .before .before .before .v3 .given .1) (c .before .before .before .before .before .before .write-mask .ensures))
 
 returns-4 : tie.Need-returns-4
 returns-4 c =
-    let a = c .before .before .before .before .before .before .before .before .before .before .before .before .before .before .before .before .before .args in
-    let l = lentIn (a .setup) (a .coils .now) (a .discretes .now) (a .holdings .now) (a .inputs .now) in
-    let e = c .before .before .before .before .before .exchange .ensures in
-    rw (c .before .before .before .before .before .before .before .before .before .v4 .given .1) (swapped l (a .start) (a .reply .now) (a .broadcast) (a .body .now) (c .before .before .before .before .before .before .before .before .before .v4 .given .0 .0) _ _ _ (c .result2 .ensures) (e .0) (e .1))
+    let a = c .before .before .before .before .before .before .before .before .before .before .before .before .before .before .before .before .args in
+    laid-by (a .start) (a .reply .now) (serving (lentIn (a .setup) (a .coils .now) (a .discretes .now) (a .holdings .now) (a .inputs .now)) (a .broadcast) (a .body .now) (a .v)) _ _ _
+    (rw (c .before .before .before .before .before .before .before .before .v4 .given .1) (c .before .before .before .before .exchange .ensures .0)) (rw (c .before .before .before .before .before .before .before .before .v4 .given .1)) (rw (c .before .before .before .before .before .before .before .before .v4 .given .1) (c .before .before .before .before .exchange .ensures .1))
 
 returns-5 : tie.Need-returns-5
 returns-5 c =
-    let a = c .before .before .before .before .before .before .before .before .before .before .before .before .before .before .args in
-    let k = c .before .before .before .before .before .before .v5 .given .0 .0 in
-    let x = getD (a .body .now) 0 0 ∷ exception (getD (a .body .now) 1 0) k in
-    rw (c .before .before .before .before .before .before .v5 .given .1) (replied (a .start) (a .reply .now) (a .coils .now) (a .holdings .now) x 2 k _ _ (c .result3 .ensures) (c .before .before .before .refuse .ensures))
+    let a = c .before .before .before .before .before .before .before .before .before .before .before .before .before .args in
+    laid-by (a .start) (a .reply .now) (serving (lentIn (a .setup) (a .coils .now) (a .discretes .now) (a .holdings .now) (a .inputs .now)) (a .broadcast) (a .body .now) (a .v)) _ _ _
+    (rw (c .before .before .before .before .before .v5 .given .1) (c .before .before .refuse .ensures)) (rw (c .before .before .before .before .before .v5 .given .1)) (rw (c .before .before .before .before .before .v5 .given .1))
 
 returns-6 : tie.Need-returns-6
-returns-6 c =
-    let a = c .before .before .before .before .before .before .before .before .before .before .args in
-    rw (c .before .before .v6 .given .1) (ap (λ (d : Driven). leaving d (a .reply .now) (a .coils .now) (a .holdings .now)) (c .result4 .ensures))
+returns-6 c = rw (c .enum-told .given .1)
 
 pub serve-spec : {M : Type 1} → statement M
-serve-spec = tie.close (tie.spec (λ c. search needs) read-requires (λ c κs. search needs) (λ c. search needs) write-requires written-requires (λ c. search needs) write-mask-requires written-requires-2 (λ c. search needs) exchange-requires (λ c κs. search needs) (λ c. search needs) refuse-requires (λ c κs. search needs) (λ c. search needs) (λ c κs. search needs) (λ c. search needs) (λ c. search needs) (λ c. search needs) returns (λ c. search needs) (λ c. search needs) (λ c. search needs) returns-2 (λ c. search needs) (λ c. search needs) returns-3 (λ c. search needs) (λ c. search needs) returns-4 (λ c. search needs) returns-5 returns-6)
+serve-spec = tie.close (tie.spec (λ c. search needs) read-requires (λ c. search needs) write-requires written-requires (λ c. search needs) write-mask-requires written-requires-2 (λ c. search needs) exchange-requires (λ c. search needs) refuse-requires (λ c. search needs) (λ c. search needs) (λ c. search needs) (λ c. search needs) returns (λ c. search needs) (λ c. search needs) (λ c. search needs) returns-2 (λ c. search needs) (λ c. search needs) returns-3 (λ c. search needs) (λ c. search needs) returns-4 (λ c. search needs) returns-5 returns-6)
