@@ -19,11 +19,12 @@ use Rattle.modbus.specs.Decode.{Silent, readIgnored, foreign, frameBroken, fram
 use Rattle.modbus.specs.Drive.{spelled}
 use Rattle.modbus.specs.declared.Answer.{Answer}
 use Rattle.tables.specs.Lent.{tablesOf}
+use Rattle.driver.specs.Driven.{setupOf}
 use Rattle.driver.proofs.drive.Kinds as drive-kinds
 use Rattle.driver.proofs.drive.Reads as drive-reads
 use Rattle.demands.specs.Demand.{Request, Serves}
 use Rattle.demands.specs.OnBytes.{lentAfter}
-use Rattle.demands.proofs.DriverContract.{lent, frame, reply, setup, left}
+use Rattle.demands.proofs.DriverContract.{lent, left}
 use Rattle.client.specs.declared.ModbusRequest.{ModbusRequest}
 use Rattle.client.specs.declared.Reading.{Reading}
 use Rattle.client.specs.Asking.{Declined, badRequest, notMyReply, silent, declinedBy, getting, setting, generated, laidInto, shownCount, understood, readInto}
@@ -104,7 +105,7 @@ module _ (κs : Lfts 7) (a : Dens κs drive-kinds.ps) (x : resT drive-kinds.r κ
     (post : drive-reads.Post κs a x (atExit (endedOf 7 drive-kinds.ps drive-kinds.r) κs a u))
     (λs : Lfts 3) (b : Dens λs parse-kinds.ps) (w : resT parse-kinds.r λs .Denot) (v : Lasts (endedOf 3 parse-kinds.ps parse-kinds.r) λs b)
     (told : parse-reads.Post λs b w (atExit (endedOf 3 parse-kinds.ps parse-kinds.r) λs b v))
-    (transport : b .0 ≡ a .0 .transport) (request : now (b .1 .0) ≡ frame κs a)
+    (transport : b .0 ≡ a .0 .transport) (request : now (b .1 .0) ≡ lent κs a .frame)
     (response : now (b .1 .1 .0) ≡ take (x .length) (left κs a x u .replyBytes)) where
   -- the values lent, and as they were left
   abbrev pub before : List ℕ
@@ -114,36 +115,36 @@ module _ (κs : Lfts 7) (a : Dens κs drive-kinds.ps) (x : resT drive-kinds.r κ
   after = v .1 .1 .1 .0
 
   heard : _≡_ {A = Reading × List ℕ} (w, after)
-      (readInto before (understood (a .0 .transport) (frame κs a) (take (x .length) (left κs a x u .replyBytes)) (length before)))
+      (readInto before (understood (a .0 .transport) (lent κs a .frame) (take (x .length) (left κs a x u .replyBytes)) (length before)))
   heard = rw (transport, request, response) at told
 
-  module _ (frameBytes : Bytes (frame κs a)) (holdingBytes : Bytes (lent κs a .holdingBytes))
-      (inputBytes : Bytes (lent κs a .inputBytes)) where
+  module _ (frameBytes : Bytes (lent κs a .frame)) (holdingBytes : Bytes (lent κs a .tables .holdingBytes))
+      (inputBytes : Bytes (lent κs a .tables .inputBytes)) where
     -- what was answered is read as the cells' contents, as the driver left them in the bytes; the frame stands for itself under the driver's
     -- switch, as each that was built does (`says-capital`)
-    pub read-back : spelled (setup κs a) (frame κs a) ≡ frame κs a → x .outcome ≡ 0
-        → (r : Request) × Serves (setup κs a) (frame κs a) r
+    pub read-back : spelled (setupOf (lent κs a)) (lent κs a .frame) ≡ lent κs a .frame → x .outcome ≡ 0
+        → (r : Request) × Serves (setupOf (lent κs a)) (lent κs a .frame) r
         × (shownCount (r .ask) ≤ length before
-        → (w ≡ readOf (length (found (r .ask) (seen (tablesOf (lentAfter (lent κs a) (left κs a x u)))))) 0 0)
-        × (after ≡ sets before 0 (found (r .ask) (seen (tablesOf (lentAfter (lent κs a) (left κs a x u)))))))
+        → (w ≡ readOf (length (found (r .ask) (seen (tablesOf (lentAfter (lent κs a .tables) (left κs a x u)))))) 0 0)
+        × (after ≡ sets before 0 (found (r .ask) (seen (tablesOf (lentAfter (lent κs a .tables) (left κs a x u)))))))
     read-back capital o =
-        values-back (a .0) _ (lent κs a) (frame κs a) (reply κs a) frameBytes (left κs a x u) post holdingBytes inputBytes
+        values-back (lent κs a) frameBytes (left κs a x u) post holdingBytes inputBytes
         before after w heard capital o
 
     -- value i is cell first + i of the range that is read
-    pub cell-back : spelled (setup κs a) (frame κs a) ≡ frame κs a → x .outcome ≡ 0 → (g : Range)
-        → ((r : Request) → Serves (setup κs a) (frame κs a) r → reading (r .ask) ≡ g ∷ []) → g .count ≤ length before → (i : ℕ) → i < g .count
-        → getD after i 0 ≡ tablesOf (lentAfter (lent κs a) (left κs a x u)) (g .tab) (g .first + i)
+    pub cell-back : spelled (setupOf (lent κs a)) (lent κs a .frame) ≡ lent κs a .frame → x .outcome ≡ 0 → (g : Range)
+        → ((r : Request) → Serves (setupOf (lent κs a)) (lent κs a .frame) r → reading (r .ask) ≡ g ∷ []) → g .count ≤ length before → (i : ℕ) → i < g .count
+        → getD after i 0 ≡ tablesOf (lentAfter (lent κs a .tables) (left κs a x u)) (g .tab) (g .first + i)
     cell-back capital o g asks fits i h =
         let (r, serves, k) = read-back capital o in
-        let T = tablesOf (lentAfter (lent κs a) (left κs a x u)) in
+        let T = tablesOf (lentAfter (lent κs a .tables) (left κs a x u)) in
         let (n, p) = found-range (r .ask) g (seen T) (asks r serves) in
         let z = k (rw n fits) .1 ∙ ap (sets before 0) p in
         ap (λ (l : List ℕ). getD l i 0) z ∙ value-cell (T (g .tab)) (g .first) (g .count) i before fits h
 
     -- an exception is told as it was sent
-    pub refused-back : x .outcome ≡ 2 → (r : Request) → Says (a .0 .transport) (frame κs a) r → shownCount (r .ask) ≤ length before
+    pub refused-back : x .outcome ≡ 2 → (r : Request) → Says (a .0 .transport) (lent κs a .frame) r → shownCount (r .ask) ≤ length before
         → (w ≡ readOf 0 2 (x .code)) × (after ≡ before) × (x .code ≡ 2)
     refused-back o r says fits =
-        exception-back (a .0) _ (lent κs a) (frame κs a) (reply κs a) frameBytes (left κs a x u) post holdingBytes inputBytes
+        exception-back (lent κs a) frameBytes (left κs a x u) post holdingBytes inputBytes
         before after w heard o r says fits

@@ -20,8 +20,7 @@ use Rattle.modbus.proofs.BytesLaws.{word-at}
 use Rattle.modbus.proofs.StorageLaws.{length-part, getD-part, coil-bit}
 use Rattle.modbus.proofs.AnswerLaws.{Proper}
 use Rattle.tables.specs.Lent.{Lent, tablesOf}
-use Rattle.driver.specs.declared.Setup.{Setup as Numbers}
-use Rattle.driver.specs.Driven.{setupOf, Leaves, called}
+use Rattle.driver.specs.Driven.{Call, setupOf, Leaves, called}
 use Rattle.demands.specs.Demand.{Request, Serves}
 use Rattle.demands.specs.Order.{bad-setup, no-room}
 use Rattle.demands.specs.OnBytes.{lentAfter, showed}
@@ -64,48 +63,51 @@ told-code out after w s c e q =
     let z = e ∙ ap (readInto out) q in
     (ap (λ (x : Reading × List ℕ). x .0) z, ap (λ (x : Reading × List ℕ). x .1) z)
 
-module _ (n : Numbers) (list : List ℕ) (l : Lent) (frame reply : List ℕ) (y : Bytes frame) (g : Leaves) (e : g ≡ called n list l frame reply)
-    (h : Bytes (l .holdingBytes)) (k : Bytes (l .inputBytes)) where
+module _ (lent : Call) (y : Bytes (lent .frame)) (g : Leaves) (e : g ≡ called lent) (h : Bytes (lent .tables .holdingBytes))
+    (k : Bytes (lent .tables .inputBytes)) where
   abbrev s : Setup
-  s = setupOf n list l reply
+  s = setupOf lent
+
+  abbrev l : Lent
+  l = lent .tables
 
   -- the reply as it was sent
   abbrev pub came : List ℕ
   came = take (g .result .length) (g .replyBytes)
 
-  due : showed l g ≡ drive s (tablesOf l) frame
-  due = showed-drive n list l frame reply y g e
+  due : showed l g ≡ drive s (tablesOf l) (lent .frame)
+  due = showed-drive lent y g e
 
   module _ (out after : List ℕ) (w : Reading)
-      (q : _≡_ {A = Reading × List ℕ} (w, after) (readInto out (understood (n .transport) frame came (length out)))) where
+      (q : _≡_ {A = Reading × List ℕ} (w, after) (readInto out (understood (s .transport) (lent .frame) came (length out)))) where
     -- a frame that was answered is some request's; the client's values are what its cells hold in the bytes afterwards; the frame stands for
     -- itself under the server's switch, as each that the client builds does
-    pub values-back : spelled s frame ≡ frame → g .result .outcome ≡ 0
-        → (r : Request) × Serves s frame r
+    pub values-back : spelled s (lent .frame) ≡ lent .frame → g .result .outcome ≡ 0
+        → (r : Request) × Serves s (lent .frame) r
         × (shownCount (r .ask) ≤ length out → (w ≡ readOf (length (found (r .ask) (seen (tablesOf (lentAfter l g))))) 0 0)
         × (after ≡ sets out 0 (found (r .ask) (seen (tablesOf (lentAfter l g))))))
     values-back capital o =
-        let z : drive s (tablesOf l) frame .outcome ≡ 0 = sym (ap (λ (x : Result). x .outcome) due) ∙ o in
-        let (v, roomy) = low-valid s l frame y (omega arith) in
+        let z : drive s (tablesOf l) (lent .frame) .outcome ≡ 0 = sym (ap (λ (x : Result). x .outcome) due) ∙ o in
+        let (v, roomy) = low-valid s l (lent .frame) y (omega arith) in
         let p = proper l h k in
-        let (r, serves) = read-back-some s (tablesOf l) frame y capital v roomy p z in (
+        let (r, serves) = read-back-some s (tablesOf l) (lent .frame) y capital v roomy p z in (
           r,
           serves,
           λ fits.
-              let b = read-back s (tablesOf l) frame y capital v roomy p z r serves (length out) fits in
+              let b = read-back s (tablesOf l) (lent .frame) y capital v roomy p z r serves (length out) fits in
               told-as out after w _ _ q
-              (subst (λ (x : Result). understood (n .transport) frame (x .reply) (length out) ≡ go (shows (found (r .ask) (seen (x .after))))) (sym due) b),
+              (subst (λ (x : Result). understood (s .transport) (lent .frame) (x .reply) (length out) ≡ go (shows (found (r .ask) (seen (x .after))))) (sym due) b),
         )
 
     -- an exception to a request that may be asked is told as it was sent, and says that its cells are not all there
-    pub exception-back : g .result .outcome ≡ 2 → (r : Request) → Says (n .transport) frame r → shownCount (r .ask) ≤ length out
+    pub exception-back : g .result .outcome ≡ 2 → (r : Request) → Says (s .transport) (lent .frame) r → shownCount (r .ask) ≤ length out
         → (w ≡ readOf 0 2 (g .result .code)) × (after ≡ out) × (g .result .code ≡ 2)
     exception-back o r says fits =
-        let z : drive s (tablesOf l) frame .outcome ≡ 2 = sym (ap (λ (x : Result). x .outcome) due) ∙ o in
-        let (v, roomy) = low-valid s l frame y (omega arith) in
-        let (b, c) = read-back-refused s (tablesOf l) frame y (says-capital (n .transport) frame r says s refl) v roomy (proper l h k) r says z (length out) fits in
+        let z : drive s (tablesOf l) (lent .frame) .outcome ≡ 2 = sym (ap (λ (x : Result). x .outcome) due) ∙ o in
+        let (v, roomy) = low-valid s l (lent .frame) y (omega arith) in
+        let (b, c) = read-back-refused s (tablesOf l) (lent .frame) y (says-capital (s .transport) (lent .frame) r says s refl) v roomy (proper l h k) r says z (length out) fits in
         let (t, a) = told-code out after w _ _ q
-        (subst (λ (x : Result). understood (n .transport) frame (x .reply) (length out) ≡ go (excepted (x .exceptionCode))) (sym due) b) in
+        (subst (λ (x : Result). understood (s .transport) (lent .frame) (x .reply) (length out) ≡ go (excepted (x .exceptionCode))) (sym due) b) in
         (t, a, ap (λ (x : Result). x .exceptionCode) due ∙ c)
 
 -- what is found are the cells of the range that is read

@@ -7,7 +7,7 @@ use native.Mathlib.Omega.{arith}
 use lib.ListN.{length, drop, replicate, length-replicate}
 use Rattle.modbus.specs.Step.{go}
 use Rattle.modbus.specs.Bytes.{Bytes}
-use Rattle.modbus.specs.Table.{Kind, bit, word, Tab, coils, discretes, holdings, inputs, kindOf, Fits, Tables, Range, part}
+use Rattle.modbus.specs.Table.{Kind, bit, word, Tab, holdings, kindOf, Fits, Tables, Range, part}
 use Rattle.modbus.specs.Request.{Fn, code, reads, both, Ask, read, write, writes, masks, swaps, fnOf, reading, writing, Permitted, cargo, octets, Fills, Encodes, shown, apply, seen, found, answer, exception}
 use Rattle.modbus.specs.Paper.{protoOf}
 use Rattle.modbus.specs.Frame.{Framed, wrap}
@@ -35,21 +35,15 @@ use Rattle.asking.proofs.Built.{least-three, most-253}
 
 -- ---- what a server serves may be asked
 
-held : (s : Setup) → Valid s → (t : Tab) → s .cells t ≤ 65536
-held s v coils = v .1 .1 .0 .0
-held s v discretes = v .1 .1 .1 .0 .0
-held s v holdings = v .1 .1 .1 .1 .0 .0
-held s v inputs = v .1 .1 .1 .1 .1 .0
-
 every-range : (s : Setup) (n : ℕ) → Valid s → (l : List Range) → AllWithin s l → AllWithin (everyCell n) l
 every-range s n v [] h = tt
-every-range s n v (r ∷ l) h = (omega (arith, h .0, held s v (r .tab)), every-range s n v l (h .1))
+every-range s n v (r ∷ l) h = (omega (arith, h .0, v .held (r .tab) .0), every-range s n v l (h .1))
 
 -- a frame that stands for itself under the server's switch
 pub serves-says : (s : Setup) (f : List ℕ) → spelled s f ≡ f → Valid s → (q : Request) → Serves s f q → Says (s .transport) f q
 serves-says s f capital v q h =
     record {
-      transport = v .0;
+      transport = v .transport;
       permitted = h .permitted;
       inside = every-range s (s .transport) v (reading (q .ask) ++ writing (q .ask)) (h .inside);
       encoded = (h .encoded .0, h .encoded .1, rw capital at (h .encoded .2));

@@ -12,13 +12,13 @@ use Rattle.modbus.specs.Request.{Fn, code, Ask, fnOf, Permitted, pdu}
 use Rattle.modbus.specs.Paper.{protoOf}
 use Rattle.modbus.specs.Frame.{Framed}
 use Rattle.modbus.specs.Decode.{Message, unitOf, numberOf, unwrap, asked}
-use Rattle.modbus.specs.Drive.{Inside, fromFunction}
-use Rattle.modbus.proofs.StepLaws.{pass, follow, bound, needed}
-use Rattle.modbus.proofs.FindLaws.{find-fn, found-fn}
+use Rattle.modbus.specs.Drive.{Inside}
+use Rattle.modbus.proofs.StepLaws.{follow, bound}
+use Rattle.modbus.proofs.WeighLaws.{weigh-goes, went}
 use Rattle.modbus.proofs.RequestLaws.{asked-says, says-heard}
 use Rattle.modbus.proofs.FrameLaws.{sound, complete}
 use Rattle.demands.specs.Demand.{Request}
-use Rattle.client.specs.Asking.{Declined, badRequest, orBadRequest, everyCell, functionOf, saidBy, sentAs}
+use Rattle.client.specs.Asking.{Declined, orBadRequest, everyCell, functionOf, saidBy, sentAs}
 use Rattle.client.proofs.BuildLaws.{or-go}
 use Rattle.asking.specs.Belonging.{Says}
 
@@ -36,18 +36,16 @@ module _ (n : ℕ) (f : List ℕ) (h : n ≤ 2) where
   unfolding sentAs
   sent-says y m a e =
       bound _ _ e λ m′ unwrapped e₁.
-      bound _ _ e₁ λ fn found e₂.
-      needed _ _ _ (bad-went _ e₂) λ lengthy e₃.
-      needed _ _ _ e₃ λ valued e₄.
-      needed _ _ _ e₄ λ inside e₅.
+      bound _ _ e₁ λ a′ weighs e₂.
+      went _ _ (everyCell n) _ (m′ .body) weighs λ fn called heeded lengthy valued inside asks.
       let framed = sound (protoOf n) f m′ y (bad-went _ unwrapped) in
-      let says = asked-says fn (m′ .body) (framed .bytes) (found-fn code _ _ _ fn found) lengthy valued in
+      let says = asked-says fn (m′ .body) (framed .bytes) called lengthy valued in
       let z : _≡_ {A = Message × Ask} (m′, asked fn (m′ .body)) (m, a) = cc in
       subst (λ (x : Message × Ask). Says n f (requested (x .0) (x .1))) z
       (record {
         transport = h;
         permitted = says .permitted;
-        inside = inside;
+        inside = subst (Inside (everyCell n)) (sym asks) inside;
         encoded = (drop 1 (m′ .body), says .encodes, subst (λ (b : List ℕ). Framed (protoOf n) (m′ .tag) b f) (says .headed) framed);
       })
 
@@ -62,10 +60,9 @@ says-sent n f q h =
     let k = says-heard (q .ask) (q .unit) l (h .permitted) encodes in
     let m = messageOf n f q h in
     follow _ _ (or-go _ (complete (protoOf n) (q .tag) (q .unit ∷ l) f framed))
-    ∙ follow _ _ (find-fn badRequest (numberOf m) (protoOf n) (fnOf (q .ask)) (k .number))
-    ∙ or-go _
-    (pass _ _ _ (k .lengthy) ∙ pass _ _ _ (k .valued) ∙ pass _ _ _ (subst (Inside (everyCell n)) (sym (k .asks)) (h .inside))
-    ∙ ap (λ (x : Ask). go (m, x)) (k .asks))
+    ∙ follow _ _ (weigh-goes _ _ (everyCell n) _ (m .body) (fnOf (q .ask)) (k .number) (λ b. b .0) (k .lengthy) (k .valued)
+    (subst (Inside (everyCell n)) (sym (k .asks)) (h .inside)))
+    ∙ ap (λ (x : Ask). go (m, x)) (k .asks)
 
 -- the number that stands in its body
 pub says-number : (n : ℕ) (f : List ℕ) (q : Request) (h : Says n f q) → numberOf (messageOf n f q h) ≡ code (fnOf (q .ask))

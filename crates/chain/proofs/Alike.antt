@@ -15,22 +15,21 @@ use Rattle.modbus.specs.Request.{Fn, code, offered}
 use Rattle.modbus.specs.Setup.{Setup, proto}
 use Rattle.modbus.specs.Unit.{Broadcast, broadcast?, Ours}
 use Rattle.modbus.specs.Decode.{Message, unitOf, numberOf, Silent, IsRead, isRead?, Lengthy}
-use Rattle.modbus.specs.Drive.{Fault, quiet, coded, spelled, judge, settle, drive}
+use Rattle.modbus.specs.Drive.{Fault, quiet, coded, spelled, weigh, judge, settle, drive}
 use Rattle.modbus.proofs.StepLaws.{bound-stop, needed-stop, pick-yes}
 use Rattle.modbus.proofs.FrameLaws.{complete}
 use Rattle.modbus.proofs.FindLaws.{found-fn, found-fault}
 use Rattle.modbus.proofs.DriveLaws.{by-judge}
-use Rattle.tables.specs.Lent.{Lent, tablesOf}
-use Rattle.driver.specs.Driven.{setupOf, driven, called}
-use Rattle.driver.specs.declared.Setup.{Setup as Numbers}
+use Rattle.tables.specs.Lent.{Lent}
+use Rattle.driver.specs.Driven.{Call, setupOf, called}
 use Rattle.demands.specs.Order.{Sent}
-use Rattle.chain.specs.Chain.{chainedTo, chained, handed, asFn, Shared, Bounded, fullest, AsDriven, Untested}
-use Rattle.demands.proofs.Judge.{judge-sent}
+use Rattle.chain.specs.Chain.{chainedTo, asFn, Shared, Bounded, fullest, chainedOn, AsDriven, Untested}
+use Rattle.demands.proofs.Judge.{judged, judge-sent}
 use Rattle.chain.proofs.Shared.{as-code}
 use Rattle.chain.proofs.Response.{nothing-line, gives}
 use Rattle.chain.proofs.Laid.{laid}
 use Rattle.chain.proofs.Faults.{chain-foreign, chain-ignored}
-use Rattle.chain.proofs.Verdicts.{strictly, Why, no-function, bad-value, bad-address, refused, judged}
+use Rattle.chain.proofs.Verdicts.{strictly, Why, no-function, bad-value, bad-address, refused}
 use Rattle.chain.proofs.Served.{served}
 use Rattle.chain.proofs.Excepted.{least-two, excepted-alike}
 
@@ -50,54 +49,51 @@ same-message s f m n h k =
 no-silence : {C : Type 0} {m : Message} {x : ℕ} {o : Silent} → coded m x ≡ quiet o → C
 no-silence e = let z : _≡_ {A = ℕ} 0 1 = cc in absurd (omega arith)
 
-module _ (numbers : Numbers) (list : List ℕ) (l : Lent) (reply frame out : List ℕ) (y : Bytes frame) (strict : numbers .hex ≡ 0) where
+module _ (lent : Call) (out : List ℕ) (y : Bytes (lent .frame)) (strict : lent .numbers .hex ≡ 0) where
   abbrev s : Setup
-  s = setupOf numbers list l reply
+  s = setupOf lent
 
-  abbrev unit : ℕ
-  unit = numbers .unit
+  abbrev l : Lent
+  l = lent .tables
 
-  abbrev Alike : Type 0
-  Alike =
-      AsDriven (proto s) (chained unit (proto s) list l (handed (proto s) frame) out) (drive s (tablesOf l) frame)
-      (called numbers list l frame reply)
-
-  module _ (room : fullest (proto s) ≤ length out) (m : Message) (h : Sent s frame m) (low : numberOf m ≤ 127)
+  module _ (room : fullest (proto s) ≤ length out) (m : Message) (h : Sent s (lent .frame) m) (low : numberOf m ≤ 127)
       (shared : Shared (numberOf m)) (within : Bounded (proto s) (m .body))
       (fits : (fn : Ported) → numberOf m ≡ codeOf fn → Lengthy (asFn fn) (m .body) × (¬ Untested fn (m .body))) where
     two : 2 ≤ length (m .body)
     two = omega (arith, h .framed .low, least-two (proto s))
 
-    silent-alike : (o : Silent) → judge s frame ≡ stop (quiet o)
-        → chained unit (proto s) list l (handed (proto s) frame) out ≡ chainedTo 0 [] (l .coilBytes) (l .holdingBytes)
-        → Alike
-    unfolding driven drive settle
+    silent-alike : (o : Silent) → judge s (lent .frame) ≡ stop (quiet o)
+        → chainedOn lent out ≡ chainedTo 0 [] (l .coilBytes) (l .holdingBytes)
+        → AsDriven lent out
+    unfolding called drive settle
     silent-alike o e w = rw e (gives w (nothing-line (proto s)))
 
     ignored : (fn : Ported) → numberOf m ≡ codeOf fn → Broadcast s (unitOf m) → IsRead (asFn fn)
-        → chained unit (proto s) list l (handed (proto s) frame) out ≡ chainedTo 0 [] (l .coilBytes) (l .holdingBytes)
+        → chainedOn lent out ≡ chainedTo 0 [] (l .coilBytes) (l .holdingBytes)
     unfolding Broadcast
     ignored (reads t) c b i =
-        let held = laid (proto s) (m .tag) (m .body) frame (strictly s frame strict (h .framed)) within in
+        let held = laid (proto s) (m .tag) (m .body) (lent .frame) (strictly s (lent .frame) strict (h .framed)) within in
         chain-ignored (held .0) (record { room = room; listed = pick-yes _ _ _ b; ours = inl b }) l t refl c two
     ignored (one k) c b i = absurd i
     ignored (many k) c b i = absurd i
 
     foreign-ignored : ¬ (Broadcast s (unitOf m) ⊎ Ours s (unitOf m))
-        → chained unit (proto s) list l (handed (proto s) frame) out ≡ chainedTo 0 [] (l .coilBytes) (l .holdingBytes)
+        → chainedOn lent out ≡ chainedTo 0 [] (l .coilBytes) (l .holdingBytes)
     unfolding Broadcast Ours
     foreign-ignored n =
-        chain-foreign (laid (proto s) (m .tag) (m .body) frame (strictly s frame strict (h .framed)) within .0) unit list out (omega (arith, two)) n l
+        chain-foreign (laid (proto s) (m .tag) (m .body) (lent .frame) (strictly s (lent .frame) strict (h .framed)) within .0) (s .unit) (s .broadcasts) out (omega (arith, two)) n l
 
-    by-fault : (x : Fault) → judge s frame ≡ stop x → Alike
+    by-fault : (x : Fault) → judge s (lent .frame) ≡ stop x → AsDriven lent out
+    unfolding weigh
     by-fault (coded n x) e =
-        let why = refused s frame n x y e in
-        let z = same-message s frame m n h (why-sent x why) in
-        excepted-alike numbers list l reply frame out y strict room n x (subst (λ k. Shared (numberOf k)) z shared)
+        let why = refused s (lent .frame) n x y e in
+        let z = same-message s (lent .frame) m n h (why-sent x why) in
+        excepted-alike lent out y strict room n x (subst (λ k. Shared (numberOf k)) z shared)
         (subst (λ k. Bounded (proto s) (k .body)) z within)
         (subst (λ k. (fn : Ported) → numberOf k ≡ codeOf fn → ¬ Untested fn (k .body)) z (λ fn c. fits fn c .1)) e
     by-fault (quiet o) e =
-        needed-stop _ _ _ (sym (judge-sent s frame m h) ∙ e) (λ n _. silent-alike o e (foreign-ignored n)) λ reached e₁.
+        needed-stop _ _ _ (sym (judge-sent s (lent .frame) m h) ∙ e) (λ n _. silent-alike o e (foreign-ignored n)) λ reached e′.
+        bound-stop _ _ e′ (λ e₁.
         needed-stop _ _ _ e₁ (λ n _. absurd (n low)) λ _ e₂.
         bound-stop _ _ e₂ (λ q. no-silence (found-fault code _ _ (offered (proto s)) q)) λ f found e₃.
         let (fn, z) = shared f (found-fn code _ _ _ f found) in
@@ -109,13 +105,14 @@ module _ (numbers : Numbers) (list : List ℕ) (l : Lent) (reply frame out : Lis
         needed-stop _ _ _ e₄ (λ n _. absurd (n (subst (λ (g : Fn). Lengthy g (m .body)) (sym z) (fits fn c .0)))) λ _ e₅.
         needed-stop _ _ _ e₅ (λ _ q. no-silence q) λ _ e₆.
         needed-stop _ _ _ e₆ (λ _ q. no-silence q) λ _ e₇.
-        let x : _≡_ {A = ℕ} 0 1 = cc in absurd (omega arith)
+        let x : _≡_ {A = ℕ} 0 1 = cc in absurd (omega arith))
+        (λ a w q. let x : _≡_ {A = ℕ} 0 1 = cc in absurd (omega arith))
 
-    pub alike : Alike
+    pub alike : AsDriven lent out
     alike =
-        by-judge s frame by-fault
+        by-judge s (lent .frame) by-fault
         (λ n a e.
-        let (f, j) = judged s frame n a y e in
-        let z = same-message s frame m n h (j .known .sent) in
-        served numbers list l reply frame out y strict room n a (subst (λ k. Shared (numberOf k)) z shared)
+        let (f, j) = judged s (lent .frame) y n a e in
+        let z = same-message s (lent .frame) m n h (j .known .sent) in
+        served lent out y strict room n a (subst (λ k. Shared (numberOf k)) z shared)
         (subst (λ k. Bounded (proto s) (k .body)) z within) e)

@@ -35,13 +35,13 @@ use Rattle.incoming.proofs.EnvelopeLaws.{header-length}
 use Rattle.frame.specs.State.{fresh, After, refused, ended}
 use Rattle.frame.specs.Parse.{orLeave, frameParsed}
 use Rattle.process.specs.Process.{storedMany, tableFor}
-use Rattle.driver.specs.Driven.{setupOf}
-use Rattle.driver.specs.declared.Setup.{Setup as Numbers}
+use Rattle.driver.specs.Driven.{Call, setupOf}
+use Rattle.driver.proofs.CallLaws.{valid-sized}
 use Rattle.demands.specs.Order.{Shaped, Sent, Known, Coded, exception-sent, ignored, frame-broken, frame-check, bad-value}
 use Rattle.demands.proofs.PlaceLaws.{value-by-places}
 use Rattle.demands.proofs.Judge.{Returns, refusal-returns}
 use Rattle.demands.proofs.Spelled.{strict-same}
-use Rattle.chain.specs.Chain.{chainedTo, fromParsed, chained, handed, asFn, onLine, Serial, Bounded, fullest, Gives, Untested, Misfit, spoken}
+use Rattle.chain.specs.Chain.{chainedTo, fromParsed, chained, handed, asFn, onLine, Serial, Bounded, fullest, Gives, Untested, Misfit, spoken, chainedOn}
 use Rattle.chain.proofs.Shared.{as-code, two-unknown}
 use Rattle.chain.proofs.Response.{spoken-line, closed, closed-line, gives}
 use Rattle.chain.proofs.Laid.{Laid, front-of-line, laid}
@@ -50,7 +50,7 @@ use Rattle.chain.proofs.Processed.{table, cells, stored-whole}
 use Rattle.chain.proofs.Carried.{coilsThen, holdingsThen, chain-read, chain-many}
 use Rattle.chain.proofs.Faults.{chain-unsupported, chain-read-outside, chain-many-refused}
 use Rattle.chain.proofs.Verdicts.{strictly}
-use Rattle.chain.proofs.Served.{unheard, table-sound, written-sound}
+use Rattle.chain.proofs.Served.{unheard, written-sound}
 use Rattle.chain.proofs.Excepted.{least-two, own}
 
 serial-tag : (p : ModbusProto) → Serial p → 0 ≡ tagLength p
@@ -144,69 +144,69 @@ length-refused TcpUdp (a ∷ b ∷ []) body f h n unit list l out =
     ap (λ (x : After). fromParsed x f l)
     (unparsed unit f list out (ap (begins TcpUdp 0) (h .whole) ∙ tcp-unbegun a b body n))
 
-module _ (numbers : Numbers) (list : List ℕ) (l : Lent) (reply frame out : List ℕ) (y : Bytes frame) (strict : numbers .hex ≡ 0) where
+module _ (lent : Call) (out : List ℕ) (y : Bytes (lent .frame)) (strict : lent .numbers .hex ≡ 0) where
   abbrev s : Setup
-  s = setupOf numbers list l reply
+  s = setupOf lent
 
-  abbrev unit : ℕ
-  unit = numbers .unit
+  abbrev l : Lent
+  l = lent .tables
 
   module _ (room : fullest (proto s) ≤ length out) where
     -- the chain gives this frame and these tables, and the driver this outcome, code and reply
     abbrev Differ : List ℕ → List ℕ → List ℕ → ℕ → ℕ → List ℕ → Type 0
     Differ f c h o x r =
-        Gives (proto s) (chained unit (proto s) list l (handed (proto s) frame) out) f c h
-        × Returns s (tablesOf l) frame o x r
+        Gives (proto s) (chainedOn lent out) f c h
+        × Returns s (tablesOf l) (lent .frame) o x r
 
     -- ---- an unknown function on a serial line, to us: the chain answers whatever follows; where the frame is none,
     -- the driver is silent
 
-    module _ (serial : Serial (proto s)) (alone : ¬ Listed unit list) (f : ℕ) (rest : List ℕ)
-        (e : handed (proto s) frame ≡ unit ∷ f ∷ rest) (low : f ≤ 127) (none : (fn : Ported) → f ≢ codeOf fn) where
-      pub unknown-answered : Gives (proto s) (chained unit (proto s) list l (handed (proto s) frame) out)
-          (wrap (proto s) [] (unit ∷ exception f 1)) (l .coilBytes) (l .holdingBytes)
+    module _ (serial : Serial (proto s)) (alone : ¬ Listed (s .unit) (s .broadcasts)) (f : ℕ) (rest : List ℕ)
+        (e : handed (proto s) (lent .frame) ≡ s .unit ∷ f ∷ rest) (low : f ≤ 127) (none : (fn : Ported) → f ≢ codeOf fn) where
+      pub unknown-answered : Gives (proto s) (chainedOn lent out)
+          (wrap (proto s) [] (s .unit ∷ exception f 1)) (l .coilBytes) (l .holdingBytes)
       unknown-answered =
-          let body = unit ∷ f ∷ rest in
-          let h : Laid (proto s) [] body (handed (proto s) frame) 0 =
+          let body = s .unit ∷ f ∷ rest in
+          let h : Laid (proto s) [] body (handed (proto s) (lent .frame)) 0 =
           subst (λ (x : List ℕ). Laid (proto s) [] body x 0) (append-nil body ∙ sym e)
           (front-of-line (proto s) [] body [] serial (serial-tag (proto s) serial)) in
           gives
           (chain-unsupported h (record { room = room; listed = pick-no _ _ _ alone; ours = inr refl }) l
           (omega arith) low none)
-          (closed-line (proto s) [] unit (exception f 1))
+          (closed-line (proto s) [] (s .unit) (exception f 1))
 
       -- the shape wrong: FrameBroken
-      pub unknown-unshaped : Valid s → Roomy s → ¬ Shaped (proto s) frame
-          → Differ (wrap (proto s) [] (unit ∷ exception f 1)) (l .coilBytes) (l .holdingBytes) 5 0 []
+      pub unknown-unshaped : Valid s → Roomy s → ¬ Shaped (proto s) (lent .frame)
+          → Differ (wrap (proto s) [] (s .unit ∷ exception f 1)) (l .coilBytes) (l .holdingBytes) 5 0 []
       unknown-unshaped valid roomy wrong =
-          (unknown-answered, refusal-returns s (tablesOf l) frame y (frame-broken valid roomy (rw (strict-same s frame strict) wrong)))
+          (unknown-answered, refusal-returns s (tablesOf l) (lent .frame) y (frame-broken valid roomy (rw (strict-same s (lent .frame) strict) wrong)))
 
       -- the check wrong: FrameCheck
-      pub unknown-unchecked : Valid s → Roomy s → Shaped (proto s) frame
-          → ((tag body : List ℕ) → ¬ Framed (proto s) tag body frame)
-          → Differ (wrap (proto s) [] (unit ∷ exception f 1)) (l .coilBytes) (l .holdingBytes) 6 0 []
+      pub unknown-unchecked : Valid s → Roomy s → Shaped (proto s) (lent .frame)
+          → ((tag body : List ℕ) → ¬ Framed (proto s) tag body (lent .frame))
+          → Differ (wrap (proto s) [] (s .unit ∷ exception f 1)) (l .coilBytes) (l .holdingBytes) 6 0 []
       unknown-unchecked valid roomy shaped wrong =
-          (unknown-answered, refusal-returns s (tablesOf l) frame y (frame-check valid roomy (rw (strict-same s frame strict) shaped) (rw (strict-same s frame strict) wrong)))
+          (unknown-answered, refusal-returns s (tablesOf l) (lent .frame) y (frame-check valid roomy (rw (strict-same s (lent .frame) strict) shaped) (rw (strict-same s (lent .frame) strict) wrong)))
 
     -- ---- a good frame of function 22 or 23, to us or to all: the chain answers by code 1, whether the driver serves it or not
 
-    module _ (m : Message) (sent : Sent s frame m) (within : Bounded (proto s) (m .body)) (reached : Broadcast s (unitOf m) ⊎ Ours s (unitOf m))
+    module _ (m : Message) (sent : Sent s (lent .frame) m) (within : Bounded (proto s) (m .body)) (reached : Broadcast s (unitOf m) ⊎ Ours s (unitOf m))
         (new : (numberOf m ≡ 22) ⊎ (numberOf m ≡ 23)) where
-      pub unknown-to-the-crate : Gives (proto s) (chained unit (proto s) list l (handed (proto s) frame) out)
-          (spoken (choose (listed? (unitOf m) list) true false) (wrap (proto s) (m .tag) (unitOf m ∷ exception (numberOf m) 1)))
+      pub unknown-to-the-crate : Gives (proto s) (chainedOn lent out)
+          (spoken (choose (listed? (unitOf m) (s .broadcasts)) true false) (wrap (proto s) (m .tag) (unitOf m ∷ exception (numberOf m) 1)))
           (l .coilBytes) (l .holdingBytes)
       unfolding Broadcast Ours
       unknown-to-the-crate =
-          let b = choose (listed? (unitOf m) list) true false in
-          let held = laid (proto s) (m .tag) (m .body) frame (strictly s frame strict (sent .framed)) within in
+          let b = choose (listed? (unitOf m) (s .broadcasts)) true false in
+          let held = laid (proto s) (m .tag) (m .body) (lent .frame) (strictly s (lent .frame) strict (sent .framed)) within in
           gives
           (chain-unsupported (held .0) (record { room = room; listed = refl; ours = reached }) l
           (omega (arith, sent .framed .low, least-two (proto s))) (elim new [ inl q ↦ omega arith | inr q ↦ omega arith ]) (two-unknown _ new))
-          (spoken-line (proto s) b (m .tag) unit _ ∙ own (proto s) b unit (unitOf m) list (m .tag) _ refl reached)
+          (spoken-line (proto s) b (m .tag) (s .unit) _ ∙ own (proto s) b (s .unit) (unitOf m) (s .broadcasts) (m .tag) _ refl reached)
 
     -- ---- a good frame with a value that the driver refuses by code 3, to us or, a write, to all
 
-    module _ (m : Message) (within : Bounded (proto s) (m .body)) (b : Bool) (e : choose (listed? (unitOf m) list) true false ≡ b) where
+    module _ (m : Message) (within : Bounded (proto s) (m .body)) (b : Bool) (e : choose (listed? (unitOf m) (s .broadcasts)) true false ≡ b) where
       -- Exception, or BroadcastIgnored
       abbrev outcome : Bool → ℕ
       outcome false = 2
@@ -217,32 +217,32 @@ module _ (numbers : Numbers) (list : List ℕ) (l : Lent) (reply frame out : Lis
           Differ (spoken b f) c h (outcome b) 3
           (spoken b (wrap (proto s) (m .tag) (unitOf m ∷ exception (numberOf m) 3)))
 
-      refused-by : (b : Bool) → choose (listed? (unitOf m) list) true false ≡ b
+      refused-by : (b : Bool) → choose (listed? (unitOf m) (s .broadcasts)) true false ≡ b
           → Coded s m (outcome b) 3 (spoken b (wrap (proto s) (m .tag) (unitOf m ∷ exception (numberOf m) 3)))
       unfolding Broadcast
       refused-by true q = ignored 3 (holds _ _ refl q)
       refused-by false q = exception-sent 3 (holds-not _ _ refl q)
 
-      refuses : (fn : Fn) → Known s frame m fn → Lengthy fn (m .body) → ¬ Valued fn (m .body)
-          → Returns s (tablesOf l) frame (outcome b) 3
+      refuses : (fn : Fn) → Known s (lent .frame) m fn → Lengthy fn (m .body) → ¬ Valued fn (m .body)
+          → Returns s (tablesOf l) (lent .frame) (outcome b) 3
           (spoken b (wrap (proto s) (m .tag) (unitOf m ∷ exception (numberOf m) 3)))
-      refuses fn k n w = refusal-returns s (tablesOf l) frame y (bad-value m fn k n (value-by-places s frame m fn k n .1 w) (refused-by b e))
+      refuses fn k n w = refusal-returns s (tablesOf l) (lent .frame) y (bad-value m fn k n (value-by-places s (lent .frame) m fn k n .1 w) (refused-by b e))
 
-      heard : (fn : Fn) → Known s frame m fn → Heard (proto s) (unitOf m) unit list out b
+      heard : (fn : Fn) → Known s (lent .frame) m fn → Heard (proto s) (unitOf m) (s .unit) (s .broadcasts) out b
       unfolding Broadcast Ours
       heard fn k = record { room = room; listed = e; ours = k .reached }
 
       -- a read that is heeded is no broadcast
-      to-us : (t : Tab) → Known s frame m (asFn (reads t)) → b ≡ false
+      to-us : (t : Tab) → Known s (lent .frame) m (asFn (reads t)) → b ≡ false
       unfolding Broadcast
       to-us t k = unheard b (λ q. k .heeded (holds _ _ refl (e ∙ q), tt))
 
       -- a read of no cells is answered with byte count 0
-      pub nothing-read : (t : Tab) → Known s frame m (asFn (reads t)) → length (m .body) ≡ 6 → wordAt (m .body) 4 ≡ 0
+      pub nothing-read : (t : Tab) → Known s (lent .frame) m (asFn (reads t)) → length (m .body) ≡ 6 → wordAt (m .body) 4 ≡ 0
           → wordAt (m .body) 2 ≤ cellsOf l t
           → Refused (wrap (proto s) (m .tag) (unitOf m ∷ codeOf (reads t) ∷ 0 ∷ [])) (l .coilBytes) (l .holdingBytes)
       nothing-read t k n z i =
-          let (h, g) = laid (proto s) (m .tag) (m .body) frame (strictly s frame strict (k .sent .framed)) within in
+          let (h, g) = laid (proto s) (m .tag) (m .body) (lent .frame) (strictly s (lent .frame) strict (k .sent .framed)) within in
           let (o, d) =
           nothing-shown t (storage t .cell (tableOf l t)) (wordAt (m .body) 2) (wordAt (m .body) 4) z in
           let w =
@@ -250,7 +250,7 @@ module _ (numbers : Numbers) (list : List ℕ) (l : Lent) (reply frame out : Lis
           ∙ ap (λ (x : ℕ). unitOf m ∷ x ∷ 0 ∷ []) (k .called ∙ as-code (reads t)) in
           let c =
           chain-read h (heard (asFn (reads t)) k) l g t (to-us t k) (k .called ∙ as-code (reads t)) n (omega arith)
-          (table-sound numbers list l reply (k .sent .valid) t) (omega arith) in
+          (valid-sized lent (k .sent .valid) t) (omega arith) in
           let r =
           closed-line (proto s) (m .tag) (unitOf m) _ ∙ ap (wrap (proto s) (m .tag)) w
           ∙ ap (λ (x : Bool). spoken x (wrap (proto s) (m .tag) (unitOf m ∷ codeOf (reads t) ∷ 0 ∷ [])))
@@ -265,16 +265,16 @@ module _ (numbers : Numbers) (list : List ℕ) (l : Lent) (reply frame out : Lis
           (omega (arith, length-take-le 6 (m .body) (omega arith)))
 
       -- function 16 stores as many registers as its byte count says, whatever its count
-      pub uncounted-stored : Known s frame m (asFn (many word)) → Lengthy (asFn (many word)) (m .body)
+      pub uncounted-stored : Known s (lent .frame) m (asFn (many word)) → Lengthy (asFn (many word)) (m .body)
           → ¬ Valued (asFn (many word)) (m .body)
           → wordAt (m .body) 4 ≤ 123 → (n : ℕ) → getD (m .body) 6 0 ≡ 2 * n → n ≤ 123
           → wordAt (m .body) 2 + n ≤ l .holdingCells
           → Refused (wrap (proto s) (m .tag) (take 6 (m .body))) (l .coilBytes)
           (store registers (l .holdingBytes) (wordAt (m .body) 2) (values word n (drop 7 (m .body))))
       uncounted-stored k long w most n z few inside =
-          let (h, g) = laid (proto s) (m .tag) (m .body) frame (strictly s frame strict (k .sent .framed)) within in
+          let (h, g) = laid (proto s) (m .tag) (m .body) (lent .frame) (strictly s (lent .frame) strict (k .sent .framed)) within in
           let d : length (drop 7 (m .body)) ≡ 2 * n = simp length-drop (omega (arith, long)) in
-          let ok = written-sound numbers list l reply (k .sent .valid) word in
+          let ok = written-sound lent (k .sent .valid) word in
           let c = l .holdingBytes in
           let cn = l .holdingCells in
           let a = wordAt (m .body) 2 in
@@ -287,43 +287,43 @@ module _ (numbers : Numbers) (list : List ℕ) (l : Lent) (reply frame out : Lis
           )
 
       -- a write of no cells is echoed, and changes none
-      pub nothing-written : (k : Kind) → Known s frame m (asFn (many k)) → Lengthy (asFn (many k)) (m .body) → wordAt (m .body) 4 ≡ 0
+      pub nothing-written : (k : Kind) → Known s (lent .frame) m (asFn (many k)) → Lengthy (asFn (many k)) (m .body) → wordAt (m .body) 4 ≡ 0
           → getD (m .body) 6 0 ≡ 0 → wordAt (m .body) 2 ≤ cells k l
           → Refused (wrap (proto s) (m .tag) (take 6 (m .body))) (l .coilBytes) (l .holdingBytes)
       nothing-written k j long z o inside =
-          let (h, g) = laid (proto s) (m .tag) (m .body) frame (strictly s frame strict (j .sent .framed)) within in
+          let (h, g) = laid (proto s) (m .tag) (m .body) (lent .frame) (strictly s (lent .frame) strict (j .sent .framed)) within in
           let d : length (drop 7 (m .body)) ≡ 0 = simp length-drop (omega (arith, long)) in
-          let ok = written-sound numbers list l reply (j .sent .valid) k in
-          let stores = empty-stored l k (m .body) z d ok inside (proto s) unit (answers b) (startOf (proto s)) in
+          let ok = written-sound lent (j .sent .valid) k in
+          let stores = empty-stored l k (m .body) z d ok inside (proto s) (s .unit) (answers b) (startOf (proto s)) in
           let c =
           chain-many h (heard (asFn (many k)) j) l g k (j .called ∙ as-code (many k)) (long .1) (omega arith) (omega arith)
           (table k l) stores
           ∙ as-given k _ (l .coilBytes) (l .holdingBytes) in
           (gives c (echoed (long .0)), refuses (asFn (many k)) j long (λ v. omega (arith, v)))
 
-      own-line : (fn : Fn) → Known s frame m fn
-          → onLine (proto s) (spoken b (closed (proto s) (m .tag) (unit ∷ exception (numberOf m) 2)))
+      own-line : (fn : Fn) → Known s (lent .frame) m fn
+          → onLine (proto s) (spoken b (closed (proto s) (m .tag) (s .unit ∷ exception (numberOf m) 2)))
           ≡ spoken b (wrap (proto s) (m .tag) (unitOf m ∷ exception (numberOf m) 2))
       own-line fn k =
-          spoken-line (proto s) b (m .tag) unit _
-          ∙ own (proto s) b unit (unitOf m) list (m .tag) _ e (heard fn k .ours)
+          spoken-line (proto s) b (m .tag) (s .unit) _
+          ∙ own (proto s) b (s .unit) (unitOf m) (s .broadcasts) (m .tag) _ e (heard fn k .ours)
 
       -- what does not fit its table or its data is answered by code 2
-      pub misfit-refused : (fn : Ported) → Known s frame m (asFn fn) → Lengthy (asFn fn) (m .body) → Untested fn (m .body)
+      pub misfit-refused : (fn : Ported) → Known s (lent .frame) m (asFn fn) → Lengthy (asFn fn) (m .body) → Untested fn (m .body)
           → Misfit l fn (m .body)
           → Refused (wrap (proto s) (m .tag) (unitOf m ∷ exception (numberOf m) 2)) (l .coilBytes) (l .holdingBytes)
       misfit-refused (reads t) k n u f =
-          let (h, g) = laid (proto s) (m .tag) (m .body) frame (strictly s frame strict (k .sent .framed)) within in
+          let (h, g) = laid (proto s) (m .tag) (m .body) (lent .frame) (strictly s (lent .frame) strict (k .sent .framed)) within in
           let c =
           chain-read-outside h (heard (asFn (reads t)) k) l g t (to-us t k) (k .called ∙ as-code (reads t)) n (omega arith)
-          (table-sound numbers list l reply (k .sent .valid) t) (omega arith) in
+          (valid-sized lent (k .sent .valid) t) (omega arith) in
           (gives c (own-line (asFn (reads t)) k), refuses (asFn (reads t)) k n (λ v. omega (arith, v)))
       misfit-refused (one j) k n u f = absurd f
       misfit-refused (many j) k n u f =
-          let (h, g) = laid (proto s) (m .tag) (m .body) frame (strictly s frame strict (k .sent .framed)) within in
-          let ok = written-sound numbers list l reply (k .sent .valid) j in
+          let (h, g) = laid (proto s) (m .tag) (m .body) (lent .frame) (strictly s (lent .frame) strict (k .sent .framed)) within in
+          let ok = written-sound lent (k .sent .valid) j in
           let d : length (drop 7 (m .body)) ≡ getD (m .body) 6 0 = simp length-drop (omega (arith, n)) in
-          let stops = misfit-stops l j (m .body) d ok f (proto s) unit (answers b) (startOf (proto s)) in
+          let stops = misfit-stops l j (m .body) d ok f (proto s) (s .unit) (answers b) (startOf (proto s)) in
           let c =
           chain-many-refused h (heard (asFn (many j)) k) l g j (k .called ∙ as-code (many j)) (n .1) (u .1) (u .0) OOBContext stops in
           (gives c (own-line (asFn (many j)) k), refuses (asFn (many j)) k n (u .2))

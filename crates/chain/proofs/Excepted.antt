@@ -18,19 +18,19 @@ use Rattle.modbus.specs.Frame.{wrap, least, most}
 use Rattle.modbus.specs.Setup.{Setup, proto, Valid}
 use Rattle.modbus.specs.Unit.{Listed, listed?, Broadcast, Ours}
 use Rattle.modbus.specs.Decode.{Message, unitOf, numberOf, IsRead, Lengthy, Valued, asked}
-use Rattle.modbus.specs.Drive.{Inside, coded, judge, drive}
+use Rattle.modbus.specs.Drive.{Inside, coded, judge}
 use Rattle.modbus.specs.declared.ErrorKind.the-variants.{OOBContext}
 use Rattle.modbus.specs.declared.ModbusProto.{ModbusProto}
 use Rattle.modbus.specs.declared.ModbusProto.the-variants.{Rtu, Ascii, TcpUdp}
 use Rattle.modbus.proofs.StepLaws.{holds, holds-not}
 use Rattle.modbus.proofs.StorageLaws.{size-sound, length-part}
-use Rattle.tables.specs.Lent.{Lent, tablesOf}
+use Rattle.tables.specs.Lent.{Lent}
 use Rattle.tables.proofs.CallsLaws.{stored-outside}
 use Rattle.process.specs.Process.{Legal, storedMany}
-use Rattle.driver.specs.Driven.{setupOf, driven, called}
-use Rattle.driver.specs.declared.Setup.{Setup as Numbers}
+use Rattle.driver.specs.Driven.{Call, setupOf, called}
+use Rattle.driver.proofs.CallLaws.{valid-sized}
 use Rattle.demands.specs.Order.{Known}
-use Rattle.chain.specs.Chain.{chainedTo, chained, handed, asFn, Shared, Bounded, fullest, AsDriven, Untested, spoken}
+use Rattle.chain.specs.Chain.{chainedTo, chained, asFn, Shared, Bounded, fullest, chainedOn, AsDriven, Untested, spoken}
 use Rattle.chain.proofs.Shared.{as-code}
 use Rattle.chain.proofs.Response.{closed, spoken-line, gives}
 use Rattle.chain.proofs.Laid.{Laid, Good, laid}
@@ -38,7 +38,7 @@ use Rattle.chain.proofs.Parsed.{Heard, ready, answers}
 use Rattle.chain.proofs.Processed.{table, cells, stored-whole}
 use Rattle.chain.proofs.Faults.{excepted, chain-unsupported, chain-read-over, chain-many-over, chain-read-outside, chain-one-illegal, chain-one-outside, chain-many-refused}
 use Rattle.chain.proofs.Verdicts.{strictly, Why, no-function, bad-value, bad-address, refused, refused-reply}
-use Rattle.chain.proofs.Served.{unheard, table-sound, written-sound, legal, few-bytes}
+use Rattle.chain.proofs.Served.{unheard, written-sound, legal, few-bytes}
 
 pub least-two : (p : ModbusProto) → 2 ≤ least p
 least-two Rtu = omega arith
@@ -62,12 +62,12 @@ own p true unit u list tag pdu e r = refl
 own p false unit u list tag pdu e (inl x) = absurd (holds-not _ _ refl e x)
 own p false unit u list tag pdu e (inr x) = ap (λ (n : ℕ). wrap p tag (n ∷ pdu)) (sym x)
 
-module _ (numbers : Numbers) (list : List ℕ) (l : Lent) (reply : List ℕ) where
+module _ (lent : Call) where
   abbrev s : Setup
-  s = setupOf numbers list l reply
+  s = setupOf lent
 
-  abbrev unit : ℕ
-  unit = numbers .unit
+  abbrev l : Lent
+  l = lent .tables
 
   one-beyond : (k : Kind) (b : List ℕ) → ¬ Inside s (asked (asFn (one k)) b)
       → cells k l ≤ wordAt b 2
@@ -85,24 +85,24 @@ module _ (numbers : Numbers) (list : List ℕ) (l : Lent) (reply : List ℕ) whe
   beyond-refused : (v : Valid s) (k : Kind) (b : List ℕ) → length (drop 7 b) ≡ octets k (wordAt b 4)
       → cells k l < wordAt b 2 + wordAt b 4
       → (p : ModbusProto) (x : Bool) (start len : ℕ)
-      → storedMany k (table k l) (cells k l) (ready p unit x false (many k) start (wordAt b 2) (wordAt b 4) len)
+      → storedMany k (table k l) (cells k l) (ready p (s .unit) x false (many k) start (wordAt b 2) (wordAt b 4) len)
       (drop 7 b) ≡ stop OOBContext
   beyond-refused v bit b n h p x start len =
       stored-outside packed (l .coilBytes) (l .coilCells) (wordAt b 2) (wordAt b 4) (drop 7 b)
-      (rw (size-sound packed (l .coilBytes) (l .coilCells) (written-sound numbers list l reply v bit)) h)
+      (rw (size-sound packed (l .coilBytes) (l .coilCells) (written-sound lent v bit)) h)
   beyond-refused v word b n h p x start len =
       stored-whole (l .holdingBytes) (l .holdingCells) (wordAt b 2) (wordAt b 4) (drop 7 b) n
       ∙ stored-outside registers (l .holdingBytes) (l .holdingCells) (wordAt b 2) (wordAt b 4) (drop 7 b)
       (rw (size-sound registers (l .holdingBytes) (l .holdingCells)
-      (written-sound numbers list l reply v word)) h)
+      (written-sound lent v word)) h)
 
   module _ {p : ModbusProto} {tag body buf : List ℕ} {start : ℕ} (h : Laid p tag body buf start)
       (g : Good p body buf start)
       (out : List ℕ) (b : Bool)
-      (heard : Heard p (getD body 0 0) unit list out b) (v : Valid s) where
+      (heard : Heard p (getD body 0 0) (s .unit) (s .broadcasts) out b) (v : Valid s) where
     -- the chain's end on a request that is refused with a code
     abbrev Excepts : ℕ → Type 0
-    Excepts x = chained unit p list l buf out ≡ excepted h heard l x
+    Excepts x = chained (s .unit) p (s .broadcasts) l buf out ≡ excepted h heard l x
 
     value-excepted : (fn : Ported) → getD body 1 0 ≡ codeOf fn → (b ≡ true → ¬ IsRead (asFn fn)) → Lengthy (asFn fn) body
         → length body ≤ 254 → ¬ Valued (asFn fn) body → ¬ Untested fn body → Excepts 3
@@ -122,64 +122,63 @@ module _ (numbers : Numbers) (list : List ℕ) (l : Lent) (reply : List ℕ) whe
         → Valued (asFn fn) body → ¬ Inside s (asked (asFn fn) body) → Excepts 2
     address-excepted (reads t) c heeded n w i =
         chain-read-outside h heard l g t (unheard b (λ q. heeded q tt)) c n (w .1)
-        (table-sound numbers list l reply v t)
+        (valid-sized lent v t)
         (by-cases (wordAt body 2 + wordAt body 4 ≤? _) (λ j. absurd (i (j, tt))) (λ j. omega arith))
     address-excepted (one k) c heeded n w i =
         chain-one-outside h heard l g k c n (legal k body w)
-        (written-sound numbers list l reply v k) (one-beyond k body i)
+        (written-sound lent v k) (one-beyond k body i)
     address-excepted (many k) c heeded n w i =
         chain-many-refused h heard l g k c (n .1) (few-bytes k body w) (w .1 .0) OOBContext
         (λ len. beyond-refused v k body (simp length-drop (omega (arith, n, w))) (many-beyond k body i) p
         (answers b) start len)
 
-  module _ (frame out : List ℕ) (y : Bytes frame) (strict : numbers .hex ≡ 0) (room : fullest (proto s) ≤ length out) (m : Message) (x : ℕ) where
+  module _ (out : List ℕ) (y : Bytes (lent .frame)) (strict : s .hex ≡ 0) (room : fullest (proto s) ≤ length out) (m : Message) (x : ℕ) where
     abbrev b : Bool
-    b = choose (listed? (unitOf m) list) true false
+    b = choose (listed? (unitOf m) (s .broadcasts)) true false
 
     -- the chain over the frame's bytes
     abbrev Answers : ℕ → Type 0
     Answers x =
-        chained unit (proto s) list l (handed (proto s) frame) out
-        ≡ chainedTo 0 (spoken b (closed (proto s) (m .tag) (unit ∷ exception (numberOf m) x))) (l .coilBytes)
+        chainedOn lent out
+        ≡ chainedTo 0 (spoken b (closed (proto s) (m .tag) (s .unit ∷ exception (numberOf m) x))) (l .coilBytes)
         (l .holdingBytes)
 
     module _ (shared : Shared (numberOf m)) (within : Bounded (proto s) (m .body)) (tested : (fn : Ported) → numberOf m ≡ codeOf fn → ¬ Untested fn (m .body)) where
-      why-excepted : (x : ℕ) → Why s frame m x → Answers x
+      why-excepted : (x : ℕ) → Why s (lent .frame) m x → Answers x
       unfolding Broadcast Ours
       why-excepted x (no-function sent reached low none) =
-          let held = laid (proto s) (m .tag) (m .body) frame (strictly s frame strict (sent .framed)) within in
+          let held = laid (proto s) (m .tag) (m .body) (lent .frame) (strictly s (lent .frame) strict (sent .framed)) within in
           chain-unsupported (held .0) (record { room = room; listed = refl; ours = reached }) l
           (omega (arith, sent .framed .low, least-two (proto s))) low (λ fn q. none (asFn fn) (q ∙ sym (as-code fn)))
       why-excepted x (bad-value f kf nf wf) =
           let (fn, e) = shared f (kf .called) in
-          let (k, n, w) = subst (λ (g : Fn). Known s frame m g × Lengthy g (m .body) × (¬ Valued g (m .body))) e (kf, nf, wf) in
+          let (k, n, w) = subst (λ (g : Fn). Known s (lent .frame) m g × Lengthy g (m .body) × (¬ Valued g (m .body))) e (kf, nf, wf) in
           let c = k .called ∙ as-code fn in
-          let held = laid (proto s) (m .tag) (m .body) frame (strictly s frame strict (k .sent .framed)) within in
+          let held = laid (proto s) (m .tag) (m .body) (lent .frame) (strictly s (lent .frame) strict (k .sent .framed)) within in
           value-excepted (held .0) (held .1) out b (record { room = room; listed = refl; ours = k .reached })
           (k .sent .valid) fn c (λ q i. k .heeded (holds _ _ refl q, i)) n
           (omega (arith, k .sent .framed .high, most-body (proto s))) w (tested fn c)
       why-excepted x (bad-address f kf nf wf jf) =
           let (fn, e) = shared f (kf .called) in
-          let (k, n, w, j) = subst (λ (g : Fn). Known s frame m g × Lengthy g (m .body) × Valued g (m .body) × (¬ Inside s (asked g (m .body)))) e
+          let (k, n, w, j) = subst (λ (g : Fn). Known s (lent .frame) m g × Lengthy g (m .body) × Valued g (m .body) × (¬ Inside s (asked g (m .body)))) e
           (kf, nf, wf, jf) in
-          let held = laid (proto s) (m .tag) (m .body) frame (strictly s frame strict (k .sent .framed)) within in
+          let held = laid (proto s) (m .tag) (m .body) (lent .frame) (strictly s (lent .frame) strict (k .sent .framed)) within in
           address-excepted (held .0) (held .1) out b (record { room = room; listed = refl; ours = k .reached })
           (k .sent .valid) fn (k .called ∙ as-code fn) (λ q i. k .heeded (holds _ _ refl q, i)) n w j
 
-    reached : (x : ℕ) → Why s frame m x → Listed (unitOf m) list ⊎ (unitOf m ≡ unit)
+    reached : (x : ℕ) → Why s (lent .frame) m x → Listed (unitOf m) (s .broadcasts) ⊎ (unitOf m ≡ s .unit)
     unfolding Broadcast Ours
     reached x (no-function sent r low none) = r
     reached x (bad-value fn k n w) = k .reached
     reached x (bad-address fn k n w i) = k .reached
 
     pub excepted-alike : Shared (numberOf m) → Bounded (proto s) (m .body) → ((fn : Ported) → numberOf m ≡ codeOf fn → ¬ Untested fn (m .body))
-        → judge s frame ≡ stop (coded m x)
-        → AsDriven (proto s) (chained unit (proto s) list l (handed (proto s) frame) out) (drive s (tablesOf l) frame)
-        (called numbers list l frame reply)
-    unfolding driven
+        → judge s (lent .frame) ≡ stop (coded m x)
+        → AsDriven lent out
+    unfolding called
     excepted-alike shared within tested e =
-        let why = refused s frame m x y e in
+        let why = refused s (lent .frame) m x y e in
         rw e (gives (why-excepted shared within tested x why)
-        (spoken-line (proto s) b (m .tag) unit _
-        ∙ own (proto s) b unit (unitOf m) list (m .tag) _ refl (reached x why)
-        ∙ sym (refused-reply numbers list l reply frame m b refl x e)))
+        (spoken-line (proto s) b (m .tag) (s .unit) _
+        ∙ own (proto s) b (s .unit) (unitOf m) (s .broadcasts) (m .tag) _ refl (reached x why)
+        ∙ sym (refused-reply lent m b refl x e)))

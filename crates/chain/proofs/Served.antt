@@ -17,23 +17,24 @@ use Rattle.modbus.specs.Storage.{packed, registers, Sound, storage, store, valu
 use Rattle.modbus.specs.Setup.{Setup, proto, Valid}
 use Rattle.modbus.specs.Unit.{listed?, Broadcast, Ours}
 use Rattle.modbus.specs.Decode.{Message, unitOf, numberOf, IsRead, Lengthy, Valued, asked}
-use Rattle.modbus.specs.Drive.{Inside, judge, drive}
+use Rattle.modbus.specs.Drive.{Inside, judge}
 use Rattle.modbus.specs.declared.ModbusProto.{ModbusProto}
 use Rattle.modbus.proofs.StepLaws.{holds}
 use Rattle.modbus.proofs.StorageLaws.{size-sound, length-part}
 use Rattle.modbus.proofs.RequestLaws as request
 use Rattle.modbus.proofs.RequestLaws.{asked-says}
-use Rattle.tables.specs.Lent.{Lent, tableOf, cellsOf, tablesOf}
+use Rattle.tables.specs.Lent.{Lent, tableOf, tablesOf}
 use Rattle.tables.proofs.CallsLaws.{stored-inside}
 use Rattle.process.specs.Process.{Legal, valueOf, storedMany}
-use Rattle.driver.specs.Driven.{setupOf, bytesAfter, driven, called}
-use Rattle.driver.specs.declared.Setup.{Setup as Numbers}
-use Rattle.chain.specs.Chain.{chainedTo, chained, handed, asFn, Shared, Bounded, fullest, AsDriven, spoken}
+use Rattle.driver.specs.Driven.{Call, setupOf, bytesAfter, called}
+use Rattle.driver.proofs.CallLaws.{valid-sized}
+use Rattle.demands.proofs.Judge.{Judged, judged}
+use Rattle.chain.specs.Chain.{chainedTo, chained, asFn, Shared, Bounded, fullest, chainedOn, AsDriven, spoken}
 use Rattle.chain.proofs.Shared.{as-code}
 use Rattle.chain.proofs.Response.{closed, spoken-line, gives}
 use Rattle.chain.proofs.Laid.{Laid, Good, laid}
 use Rattle.chain.proofs.Parsed.{ready, answers, Heard}
-use Rattle.chain.proofs.Verdicts.{strictly, Judged, judged, served-reply}
+use Rattle.chain.proofs.Verdicts.{strictly, served-reply}
 use Rattle.chain.proofs.Processed.{table, cells, stored-whole}
 use Rattle.chain.proofs.Carried.{coilsThen, holdingsThen, written, chain-read, chain-one, chain-many}
 
@@ -74,24 +75,17 @@ echoes a b vs w s =
     let (pad, q, e) = s .encodes in
     ap (take 6) (s .headed ∙ ap (λ (x : List ℕ). getD b 0 0 ∷ x) e) ∙ w (getD b 0 0) pad
 
-module _ (numbers : Numbers) (list : List ℕ) (l : Lent) (reply : List ℕ) where
+module _ (lent : Call) where
   abbrev s : Setup
-  s = setupOf numbers list l reply
+  s = setupOf lent
 
-  abbrev unit : ℕ
-  unit = numbers .unit
-
-  -- a valid setup's tables count whole
-  pub table-sound : Valid s → (t : Tab) → Sound (storage t) (tableOf l t) (cellsOf l t)
-  table-sound v coils = v .1 .1 .0
-  table-sound v discretes = v .1 .1 .1 .0
-  table-sound v holdings = v .1 .1 .1 .1 .0
-  table-sound v inputs = v .1 .1 .1 .1 .1
+  abbrev l : Lent
+  l = lent .tables
 
   pub written-sound : Valid s → (k : Kind)
       → Sound (storage (target k)) (table k l) (cells k l)
-  written-sound v bit = table-sound v coils
-  written-sound v word = table-sound v holdings
+  written-sound v bit = valid-sized lent v coils
+  written-sound v word = valid-sized lent v holdings
 
   -- what the data of a served write of many stores
   stored-many : (k : Kind) (b : List ℕ) (len : ℕ) → length (drop 7 b) ≡ octets k (wordAt b 4)
@@ -99,7 +93,7 @@ module _ (numbers : Numbers) (list : List ℕ) (l : Lent) (reply : List ℕ) whe
       → wordAt b 2 + wordAt b 4 ≤ cells k l
       → (p : ModbusProto) (answers : Bool) (start : ℕ)
       → storedMany k (table k l) (cells k l)
-      (ready p unit answers false (many k) start (wordAt b 2) (wordAt b 4) len) (drop 7 b)
+      (ready p (s .unit) answers false (many k) start (wordAt b 2) (wordAt b 4) len) (drop 7 b)
       ≡ go (
         0,
         store (storage (target k)) (table k l) (wordAt b 2)
@@ -144,18 +138,18 @@ module _ (numbers : Numbers) (list : List ℕ) (l : Lent) (reply : List ℕ) whe
 
   module _ {p : ModbusProto} {tag body buf : List ℕ} {start : ℕ} (h : Laid p tag body buf start)
       (g : Good p body buf start) (out : List ℕ) (b : Bool)
-      (heard : Heard p (getD body 0 0) unit list out b) (y : Bytes body) (v : Valid s) where
+      (heard : Heard p (getD body 0 0) (s .unit) (s .broadcasts) out b) (y : Bytes body) (v : Valid s) where
     -- the chain's end on a request of the driver
     abbrev EndsAs : Ask → Type 0
     EndsAs a =
-        chained unit p list l buf out
+        chained (s .unit) p (s .broadcasts) l buf out
         ≡ chainedTo 0 (spoken b (closed p tag (getD body 0 0 ∷ answer a (found a (seen (apply a (tablesOf l)))))))
         (bytesAfter l a coils) (bytesAfter l a holdings)
 
     -- a write whose echo is the answer
     write-serves : (k : Kind) (a : Ask) (m : List ℕ) → StoredAs k a m
         → take 6 body ≡ getD body 0 0 ∷ answer a (found a (seen (apply a (tablesOf l))))
-        → chained unit p list l buf out ≡ written h heard l k m → EndsAs a
+        → chained (s .unit) p (s .broadcasts) l buf out ≡ written h heard l k m → EndsAs a
     write-serves k a m (x, z) e q =
         q ∙ ap (λ (w : List ℕ). chainedTo 0 (spoken b (closed p tag w)) (coilsThen k (l .coilBytes) m)
         (holdingsThen k (l .holdingBytes) m)) e
@@ -165,7 +159,7 @@ module _ (numbers : Numbers) (list : List ℕ) (l : Lent) (reply : List ℕ) whe
         → Valued (asFn fn) body → Inside s (asked (asFn fn) body) → EndsAs (asked (asFn fn) body)
     chain-serves (reads t) c heeded n w i =
         let e = unheard b (λ q. heeded q tt) in
-        chain-read h heard l g t e c n (w .1) (table-sound v t) (i .0)
+        chain-read h heard l g t e c n (w .1) (valid-sized lent v t) (i .0)
         ∙ ap (λ (x : List ℕ). chainedTo 0 (closed p tag (getD body 0 0 ∷ x)) (l .coilBytes) (l .holdingBytes))
         (sym (reply-read l body (wordAt body 2) (wordAt body 4) t c))
         ∙ ap (λ (x : Bool).
@@ -183,29 +177,28 @@ module _ (numbers : Numbers) (list : List ℕ) (l : Lent) (reply : List ℕ) whe
         (λ len. stored-many k body len (simp length-drop (omega (arith, n, w))) (written-sound v k)
         (many-within k body i) p (answers b) start))
 
-  module _ (frame out : List ℕ) (y : Bytes frame) (strict : numbers .hex ≡ 0) (room : fullest (proto s) ≤ length out) (m : Message) (a : Ask) where
+  module _ (out : List ℕ) (y : Bytes (lent .frame)) (strict : s .hex ≡ 0) (room : fullest (proto s) ≤ length out) (m : Message) (a : Ask) where
     -- the chain over the frame's bytes, on a request of the driver
     abbrev Chains : Ask → Bool → Type 0
     Chains x b =
-        chained unit (proto s) list l (handed (proto s) frame) out
+        chainedOn lent out
         ≡ chainedTo 0 (spoken b (closed (proto s) (m .tag) (unitOf m ∷ answer x (found x (seen (apply x (tablesOf l)))))))
         (bytesAfter l x coils) (bytesAfter l x holdings)
 
-    pub served : Shared (numberOf m) → Bounded (proto s) (m .body) → judge s frame ≡ go (m, a)
-        → AsDriven (proto s) (chained unit (proto s) list l (handed (proto s) frame) out) (drive s (tablesOf l) frame)
-        (called numbers list l frame reply)
-    unfolding driven Broadcast Ours
+    pub served : Shared (numberOf m) → Bounded (proto s) (m .body) → judge s (lent .frame) ≡ go (m, a)
+        → AsDriven lent out
+    unfolding called Broadcast Ours
     served shared within e =
-        let (f, i) = judged s frame m a y e in
+        let (f, i) = judged s (lent .frame) y m a e in
         let (fn, q) = shared f (i .known .called) in
-        let j : Judged s frame m a (asFn fn) = subst (Judged s frame m a) q i in
+        let j : Judged s (lent .frame) m a (asFn fn) = subst (Judged s (lent .frame) m a) q i in
         let framed = j .known .sent .framed in
-        let held = laid (proto s) (m .tag) (m .body) frame (strictly s frame strict framed) within in
-        let b = choose (listed? (unitOf m) list) true false in
+        let held = laid (proto s) (m .tag) (m .body) (lent .frame) (strictly s (lent .frame) strict framed) within in
+        let b = choose (listed? (unitOf m) (s .broadcasts)) true false in
         let w = subst (λ (x : Ask). Chains x b) (j .asks)
         (chain-serves (held .0) (held .1) out b (record { room = room; listed = refl; ours = j .known .reached })
         (framed .bytes) (j .known .sent .valid)
         fn (j .known .called ∙ as-code fn) (λ q i. j .known .heeded (holds _ _ refl q, i)) (j .lengthy) (j .valued)
         (j .inside)) in
         rw e (gives w (spoken-line (proto s) b (m .tag) (unitOf m) _
-        ∙ sym (served-reply numbers list l reply frame m b refl a e)))
+        ∙ sym (served-reply lent m b refl a e)))

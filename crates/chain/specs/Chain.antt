@@ -16,13 +16,14 @@ use Rattle.modbus.specs.Ported.{Ported, reads, one, many}
 use Rattle.modbus.specs.Request as driver
 use Rattle.modbus.specs.Request.{Fn, code, mostWritten, octets}
 use Rattle.modbus.specs.Frame.{line}
+use Rattle.modbus.specs.Setup.{proto}
 use Rattle.modbus.specs.Decode.{Valued}
-use Rattle.modbus.specs.Drive.{Result}
+use Rattle.modbus.specs.Drive.{drive}
 use Rattle.modbus.specs.declared.ErrorKind.{ErrorKind}
 use Rattle.modbus.specs.declared.ModbusProto.{ModbusProto}
 use Rattle.modbus.specs.declared.ModbusProto.the-variants.{Rtu, Ascii, TcpUdp}
-use Rattle.tables.specs.Lent.{Lent, cellsOf}
-use Rattle.driver.specs.Driven.{Leaves}
+use Rattle.tables.specs.Lent.{Lent, tablesOf, cellsOf}
+use Rattle.driver.specs.Driven.{Call, setupOf, called}
 use Rattle.frame.specs.State.{fresh, After, well}
 use Rattle.frame.specs.Parse.{frameParsed}
 use Rattle.process.specs.Process.{readProcessed, Wrote, wrote, writeProcessed, finalized}
@@ -144,9 +145,17 @@ abbrev pub spoken : Bool → List ℕ → List ℕ
 spoken true l = []
 spoken false l = l
 
--- what the driver gives
-abbrev pub AsDriven : ModbusProto → Chained → Result → Leaves → Type 0
-AsDriven p c r g = Gives p c (r .reply) (g .coilBytes) (g .holdingBytes)
+-- the calls on what the driver is lent, and a slice for the response
+abbrev pub chainedOn : Call → List ℕ → Chained
+chainedOn lent out =
+    let s = setupOf lent in
+    chained (s .unit) (proto s) (s .broadcasts) (lent .tables) (handed (proto s) (lent .frame)) out
+
+-- they give what the driver gives
+abbrev pub AsDriven : Call → List ℕ → Type 0
+AsDriven lent out =
+    let s = setupOf lent in
+    Gives (proto s) (chainedOn lent out) (drive s (tablesOf (lent .tables)) (lent .frame) .reply) (called lent .coilBytes) (called lent .holdingBytes)
 
 -- where the two differ on a good frame: a count of 0, or a byte count that its count does not tell, which
 -- the crate does not test

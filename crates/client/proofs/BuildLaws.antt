@@ -18,14 +18,15 @@ use Rattle.modbus.specs.Decode.{Valued, lengthy?, valued?, asked, isRead?}
 use Rattle.modbus.specs.Drive.{Inside, inside?}
 use Rattle.modbus.specs.declared.Answer.{Answer}
 use Rattle.modbus.proofs.StepLaws.{pass, fail, follow, halt, needed, bound}
-use Rattle.modbus.proofs.FindLaws.{code-low, find-fn, found-fn, found-fault}
+use Rattle.modbus.proofs.FindLaws.{find-fn, found-fn, found-fault}
+use Rattle.modbus.proofs.WeighLaws.{weigh-goes, went}
 use Rattle.modbus.proofs.RequestLaws.{Heard, says-heard}
 use Rattle.requests.specs.Judged.{weighed, judged, on?, kindBy}
 use Rattle.requests.specs.declared.Write.{Write}
 use Rattle.requests.specs.declared.Write.the-variants.{Bits, Words}
 use Rattle.requests.specs.declared.Verdict.{Verdict}
 use Rattle.requests.specs.declared.Verdict.the-variants.{Read, Written, Masked, Exchanged, Refused, Quiet}
-use Rattle.requests.proofs.FineLaws.{went, Fine, fine}
+use Rattle.requests.proofs.FineLaws.{Fine, fine}
 use Rattle.client.specs.declared.ModbusRequest.{ModbusRequest}
 use Rattle.client.specs.Asking.{Declined, badRequest, orBadRequest, permitted?, everyCell, functionOf, readBy, writeBy, getting, setting, padding, bodyTo, frameTo, generated, laidInto}
 use Rattle.client.specs.Hearing.{failed, roomed, framed, bodySent, manyBody, bothBody, declining}
@@ -57,16 +58,9 @@ module _ (n u : ℕ) (a : Ask) (pad : List ℕ) (fills : Pads a pad) where
   body = u ∷ pdu a pad
 
   pub weighed-goes : Permitted a → Inside (everyCell n) a → weighed (everyCell n) false body ≡ go a
-  unfolding weighed
   weighed-goes p i =
       let h = says-heard a u (pdu a pad) p (pad, fills, refl) in
-      let low : getD body 1 0 ≤ 127 = rw (h .number) (code-low (fnOf a)) in
-      pass _ _ _ low
-      ∙ follow _ _ (find-fn _ (getD body 1 0) (proto (everyCell n)) (fnOf a) (h .number))
-      ∙ pass _ _ _ (λ q. q .0)
-      ∙ pass _ _ _ (h .lengthy)
-      ∙ pass _ _ _ (h .valued)
-      ∙ pass _ _ _ (subst (Inside (everyCell n)) (sym (h .asks)) i)
+      weigh-goes _ _ (everyCell n) _ body (fnOf a) (h .number) (λ q. q .0) (h .lengthy) (h .valued) (subst (Inside (everyCell n)) (sym (h .asks)) i)
       ∙ ap go (h .asks)
 
 -- the values fit their bytes
@@ -102,7 +96,7 @@ module _ (n u : ℕ) (a : Ask) (pad : List ℕ) (fills : Pads a pad) (sized : Si
   -- what it then asks is permitted and inside
   pub weighed-back : {b : Ask} → weighed (everyCell n) false (u ∷ pdu a pad) ≡ go b → Permitted a × Inside (everyCell n) a
   weighed-back {b} e =
-      went (everyCell n) false (u ∷ pdu a pad) e λ fn c o l v i q.
+      went _ _ (everyCell n) _ (u ∷ pdu a pad) e λ fn c o l v i q.
       let f : fn ≡ fnOf a = same-code fn (fnOf a) (sym c ∙ code-at a u pad) in
       let p = valued-permitted a u pad sized (subst (λ g. Valued g (u ∷ pdu a pad)) f v) in
       let h = says-heard a u (pdu a pad) p (pad, fills, refl) in
@@ -287,7 +281,7 @@ module _ (to : ModbusRequest) (room : ℕ) where
       unknown x e =
           by-cases (to .proto ≤? 2)
           (λ p. pass _ _ _ p ∙ by-step (weighed (everyCell (to .proto)) false body)
-          (λ b q. went (everyCell (to .proto)) false body q λ fn c o l v i z.
+          (λ b q. went _ _ (everyCell (to .proto)) _ body q λ fn c o l v i z.
           let f = find-fn badRequest func (protoOf (to .proto)) fn c in
           let y : _≡_ {A = ℕ} 0 1 = cc in absurd (omega arith))
           (λ y q. halt _ _ (or-stop _ q)))

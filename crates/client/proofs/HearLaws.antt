@@ -11,17 +11,16 @@ use lib.ListN.{length, getD, take, drop, length-take, length-drop}
 use lib.Seq.{sets, ext-getD, getD-take, length-take-le, take-length}
 use Rattle.modbus.specs.Step.{Step, stop, go, _>>=_, _>>_, need, choose, _≤?_, _≟_, _and?_, same?}
 use Rattle.modbus.specs.Table.{Kind, bit, word, Tab, coils, discretes, holdings, inputs, kindOf}
-use Rattle.modbus.specs.Request.{Fn, reads, mask, code, Ask, read, write, writes, masks, swaps, fnOf, mostRead, octets}
+use Rattle.modbus.specs.Request.{reads, mask, code, Ask, read, write, writes, masks, swaps, fnOf, mostRead, octets}
 use Rattle.modbus.specs.Storage.{values}
 use Rattle.modbus.specs.Paper.{protoOf}
 use Rattle.modbus.specs.Frame.{tagOf}
 use Rattle.modbus.specs.Setup.{Setup, proto}
-use Rattle.modbus.specs.Decode.{Message, unitOf, numberOf, Silent, noRoom, outcomeOf, IsRead, Lengthy, Valued, unwrap, asked}
-use Rattle.modbus.specs.Drive.{Inside, fromFunction}
+use Rattle.modbus.specs.Decode.{Message, unitOf, Silent, noRoom, outcomeOf, IsRead, Lengthy, Valued, unwrap, asked}
 use Rattle.modbus.specs.declared.ModbusProto.the-variants.{TcpUdp}
-use Rattle.modbus.proofs.StepLaws.{pass, fail, follow, halt, bound, needed, pick-yes, pick-no, holds, holds-not, test-refuses, test-passes}
+use Rattle.modbus.proofs.StepLaws.{pass, fail, follow, halt, bound, pick-yes, pick-no, holds, holds-not, test-refuses, test-passes}
 use Rattle.modbus.proofs.StorageLaws.{length-part}
-use Rattle.modbus.proofs.FindLaws.{find-fn, found-fn, found-fault, code-low}
+use Rattle.modbus.proofs.WeighLaws.{weigh-alike, by-alike}
 use Rattle.modbus.proofs.RequestLaws.{fn-asked}
 use Rattle.requests.specs.Judged.{weighed, judged, kindBy}
 use Rattle.requests.specs.declared.Cells.{Cells}
@@ -32,13 +31,13 @@ use Rattle.requests.specs.declared.Write.{Write}
 use Rattle.requests.specs.declared.Write.the-variants.{Bits, Words}
 use Rattle.requests.specs.declared.Verdict.{Verdict}
 use Rattle.requests.specs.declared.Verdict.the-variants.{Read, Written}
-use Rattle.requests.proofs.FineLaws.{went, Stores, Fine, FineRead, FineWrite, FineMask, FineBoth}
+use Rattle.requests.proofs.FineLaws.{Stores, Fine, FineRead, FineWrite, FineMask, FineBoth}
 use Rattle.transports.specs.Opened.{faultOf}
 use Rattle.transports.proofs.AnswerLaws.{number-fault}
 use Rattle.client.specs.declared.Reading.{Reading}
-use Rattle.client.specs.Asking.{Declined, badRequest, notMyReply, silent, declinedBy, orBadRequest, orSilent, everyCell, functionOf, saidBy, sentAs, Reply, shows, excepted, shownCount, kindShown, Excepts, excepts?, Brings, Answers, answers?, heldIn, answered, heard, mine?, replied, understood, readInto}
+use Rattle.client.specs.Asking.{Declined, badRequest, notMyReply, silent, declinedBy, orBadRequest, orSilent, everyCell, noBroadcast, saidBy, sentAs, Reply, shows, excepted, shownCount, kindShown, Excepts, excepts?, Brings, Answers, answers?, heldIn, answered, heard, mine?, replied, understood, readInto}
 use Rattle.client.specs.Hearing.{readOf, messageIn, echoed, Showing, Asks, heardFrom, repliedTo}
-use Rattle.client.proofs.BuildLaws.{same-code, by-step, or-go, or-stop}
+use Rattle.client.proofs.BuildLaws.{same-code, or-go, or-stop}
 
 -- ---- tags
 
@@ -223,31 +222,22 @@ module _ (n : ℕ) (m : Message) (a : Ask) (r : List ℕ) (room : ℕ) where
 -- ---- the request that a body says
 
 module _ (n : ℕ) (m : Message) where
+  -- what is weighed of the body, with every fault as no request
+  says : {C : Type 0} → ((w : Verdict) → weighed (everyCell n) false (m .body) ≡ stop w → saidBy n m ≡ stop badRequest → C)
+      → ((a : Ask) → weighed (everyCell n) false (m .body) ≡ go a → saidBy n m ≡ go (m, a) → C) → C
+  says f g =
+      by-alike (λ (x : Declined) (w : Verdict). x ≡ badRequest) _ _
+      (weigh-alike _ _ _ _ _ (everyCell n) noBroadcast _ (m .body) (λ h. h) (λ h. h) (λ o. refl) (λ c. refl))
+      (λ x w p q r. f w q (halt _ _ (p ∙ ap stop r)))
+      (λ a p q. g a q (follow _ _ p))
+
   pub said-goes : (a : Ask) → weighed (everyCell n) false (m .body) ≡ go a → saidBy n m ≡ go (m, a)
   said-goes a e =
-      went (everyCell n) false (m .body) e λ fn c o l v i q.
-      follow _ _ (find-fn badRequest (numberOf m) (protoOf n) fn c)
-      ∙ or-go _ (pass _ _ _ l ∙ pass _ _ _ v ∙ pass _ _ _ (subst (Inside (everyCell n)) (sym q) i) ∙ ap (λ (x : Ask). go (m, x)) q)
-
-  -- whatever goes through is what the body weighs
-  weighed-said : (fn : Fn) → functionOf n (numberOf m) ≡ go fn → (q : Message × Ask) → fromFunction (everyCell n) m fn ≡ go q
-      → weighed (everyCell n) false (m .body) ≡ go (q .1)
-  unfolding weighed
-  weighed-said fn f q e =
-      needed _ _ _ e λ l e₁. needed _ _ _ e₁ λ v e₂. needed _ _ _ e₂ λ i e₃.
-      let c = found-fn code _ _ _ fn f in
-      let z : (m, asked fn (m .body)) ≡ q = cc in
-      let low : numberOf m ≤ 127 = rw c (code-low fn) in
-      pass _ _ _ low ∙ follow _ _ (find-fn _ (numberOf m) (protoOf n) fn c) ∙ pass _ _ _ (λ h. h .0) ∙ pass _ _ _ l ∙ pass _ _ _ v ∙ pass _ _ _ i
-      ∙ ap (λ (x : Message × Ask). go (x .1)) z
+      says (λ w q r. let z : _≡_ {A = ℕ} 0 1 = cc in absurd (omega arith))
+      (λ c q r. let z : c ≡ a = cc in r ∙ ap (λ (x : Ask). go (m, x)) z)
 
   pub said-stops : (w : Verdict) → weighed (everyCell n) false (m .body) ≡ stop w → saidBy n m ≡ stop badRequest
-  said-stops w e =
-      by-step (functionOf n (numberOf m))
-      (λ fn f. follow _ _ f ∙ by-step (fromFunction (everyCell n) m fn)
-      (λ q g. let h = weighed-said fn f q g in let y : _≡_ {A = ℕ} 0 1 = cc in absurd (omega arith))
-      (λ x g. or-stop _ g))
-      (λ x f. halt _ _ (f ∙ ap stop (sym (found-fault code _ _ _ f))))
+  said-stops w e = says (λ v q r. r) (λ a q r. let z : _≡_ {A = ℕ} 0 1 = cc in absurd (omega arith))
 
   module _ (r : List ℕ) (room : ℕ) where
     pub replied-said : (a : Ask) → weighed (everyCell n) false (m .body) ≡ go a → repliedTo n m r room ≡ replied n m a r room

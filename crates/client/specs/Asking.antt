@@ -14,8 +14,8 @@ use Rattle.modbus.specs.Storage.{values}
 use Rattle.modbus.specs.Paper.{protoOf}
 use Rattle.modbus.specs.Setup.{Setup}
 use Rattle.modbus.specs.Frame.{wrap, tagOf}
-use Rattle.modbus.specs.Decode.{Message, unitOf, numberOf, Silent, noRoom, outcomeOf, unwrap}
-use Rattle.modbus.specs.Drive.{find, inside?, fromFunction}
+use Rattle.modbus.specs.Decode.{Message, unitOf, Silent, noRoom, outcomeOf, unwrap}
+use Rattle.modbus.specs.Drive.{find, inside?, weigh}
 use Rattle.modbus.specs.declared.Answer.{Answer}
 use Rattle.client.specs.declared.ModbusRequest.{ModbusRequest}
 use Rattle.client.specs.declared.Reading.{Reading}
@@ -144,10 +144,13 @@ abbrev pub laidInto : List ℕ → Step Declined (List ℕ) → Answer × List �
 laidInto out (go f) = (record { value = length f; kind = 0 }, sets out 0 f)
 laidInto out (stop x) = (record { value = 0; kind = declinedBy x }, out)
 
--- ---- the request that a frame says: read as a server reads it, of which every cell is asked
+-- ---- the request that a frame says: read as a server reads it that is asked itself, and every cell of which may be named
+
+abbrev pub noBroadcast : Dec ⊥
+noBroadcast = no (λ h. h)
 
 abbrev pub saidBy : ℕ → Message → Step Declined (Message × Ask)
-saidBy n m = functionOf n (numberOf m) >>= λ fn. orBadRequest (fromFunction (everyCell n) m fn)
+saidBy n m = weigh (λ o. badRequest) (λ c. badRequest) (everyCell n) noBroadcast (m .body) >>= λ a. go (m, a)
 
 unfoldable pub sentAs : ℕ → List ℕ → Step Declined (Message × Ask)
 sentAs n f = orBadRequest (unwrap (protoOf n) f) >>= saidBy n

@@ -15,9 +15,7 @@ use Rattle.modbus.proofs.StepLaws.{pass, fail, pick-yes, pick-no}
 use Rattle.modbus.proofs.BytesLaws.{sets-append}
 use Rattle.response.specs.Bounded.{extended}
 use Rattle.response.proofs.BoundedLaws.{extended-put}
-use Rattle.tables.specs.Lent.{Lent}
-use Rattle.driver.specs.declared.Setup.{Setup as Numbers}
-use Rattle.driver.specs.Driven.{called}
+use Rattle.driver.specs.Driven.{Call, framing, called}
 use Rattle.collector.specs.declared.Closed.the-variants.{Nothing}
 use Rattle.collector.specs.Collected.{heldIn, holding, offered, emptied, refusing, rtuCalled, quieting, served, closing, quieted}
 use Rattle.collector.proofs.PartLaws.{take-more, sets-own, sets-set}
@@ -123,27 +121,27 @@ offered-code s b ext n more r long few held e x =
 
 -- ---- a whole frame
 
-module _ (n : Numbers) (list : List ℕ) (l : Lent) (f reply : List ℕ) where
-  pub rtu-other : ¬ (n .transport ≡ 0) → rtuCalled n list l f reply ≡ refusing 10 l reply
+module _ (l : Call) where
+  pub rtu-other : ¬ (l .numbers .transport ≡ 0) → rtuCalled l ≡ refusing 10 l
   unfolding rtuCalled
   rtu-other h = pick-no _ _ _ h
 
-  pub rtu-driven : n .transport ≡ 0 → rtuCalled n list l f reply ≡ called n list l f reply
+  pub rtu-driven : l .numbers .transport ≡ 0 → rtuCalled l ≡ called l
   unfolding rtuCalled
   rtu-driven e = pick-yes _ _ _ e
 
 -- ---- the quiet signal
 
-module _ (n : Numbers) (list : List ℕ) (l : Lent) (s reply : List ℕ) where
-  pub quiet-nothing : heldIn s ≡ [] → quieted n list l s reply ≡ quieting Nothing reply (l .coilBytes) (l .holdingBytes) s
-  quiet-nothing e = ap (closing n list l s reply) e
+module _ (s : List ℕ) (l : Call) where
+  pub quiet-nothing : heldIn s ≡ [] → quieted s l ≡ quieting Nothing (l .reply) (l .tables .coilBytes) (l .tables .holdingBytes) s
+  quiet-nothing e = ap (closing s l) e
 
-  pub quiet-served : (f : List ℕ) → heldIn s ≡ f → 1 ≤ length f → quieted n list l s reply ≡ served s (rtuCalled n list l f reply)
+  pub quiet-served : (f : List ℕ) → heldIn s ≡ f → 1 ≤ length f → quieted s l ≡ served s (rtuCalled (framing l f))
   quiet-served [] e h = absurd (omega arith)
-  quiet-served (b ∷ f) e h = ap (closing n list l s reply) e
+  quiet-served (b ∷ f) e h = ap (closing s l) e
 
   pub quiet-held : (k : ℕ) → 1 ≤ k → k + 2 ≤ length s → heldIn s ≡ take k (drop 2 s)
-      → quieted n list l s reply ≡ served s (rtuCalled n list l (take ((k + 2) - 2) (drop 2 s)) reply)
+      → quieted s l ≡ served s (rtuCalled (framing l (take ((k + 2) - 2) (drop 2 s))))
   quiet-held k h m e =
       let z : k ≡ (k + 2) - 2 = omega arith in
       quiet-served _ (e ∙ ap (λ (i : ℕ). take i (drop 2 s)) z) (simp (length-take, length-drop) (omega arith))

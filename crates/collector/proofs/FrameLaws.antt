@@ -15,10 +15,8 @@ use Rattle.modbus.specs.Drive.{spelled, judge}
 use Rattle.modbus.specs.declared.ModbusProto.{ModbusProto}
 use Rattle.modbus.specs.declared.ModbusProto.the-variants.{Rtu}
 use Rattle.modbus.proofs.StepLaws.{fail}
-use Rattle.tables.specs.Lent.{Lent}
 use Rattle.transports.specs.Opened.{opened}
-use Rattle.driver.specs.declared.Setup.{Setup as Numbers}
-use Rattle.driver.specs.Driven.{setupOf, settled, driven, called}
+use Rattle.driver.specs.Driven.{Call, framing, setupOf, settled, called}
 use Rattle.driver.proofs.CallLaws.{bad-called, roomless-called, unopened-called}
 use Rattle.collector.specs.Collected.{refusing, rtuCalled}
 use Rattle.collector.proofs.CollectedLaws.{rtu-other, rtu-driven}
@@ -38,24 +36,24 @@ judge-same : (s : Setup) (f g : List ℕ) → unwrap (proto s) (spelled s f) ≡
 unfolding judge
 judge-same s f g e = rw e
 
-module _ (n : Numbers) (list : List ℕ) (l : Lent) (f reply : List ℕ) where
-  pub called-cut : n .transport ≡ 0 → called n list l (take 257 f) reply ≡ called n list l f reply
-  unfolding driven
-  called-cut z =
-      let s = setupOf n list l reply in
-      let e = subst (λ (p : ModbusProto). unwrap p (spelledIn p (n .hex) (take 257 f)) ≡ unwrap p (spelledIn p (n .hex) f)) (sym (ap protoOf z)) (unwrap-cut f) in
-      ap (settled s l reply) (judge-same s (take 257 f) f e)
+module _ (l : Call) where
+  pub called-cut : (f : List ℕ) → l .numbers .transport ≡ 0 → called (framing l (take 257 f)) ≡ called (framing l f)
+  unfolding called
+  called-cut f z =
+      let s = setupOf l in
+      let e = subst (λ (p : ModbusProto). unwrap p (spelledIn p (s .hex) (take 257 f)) ≡ unwrap p (spelledIn p (s .hex) f)) (sym (ap protoOf z)) (unwrap-cut f) in
+      ap (settled l) (judge-same s (take 257 f) f e)
 
   -- too many bytes: BadSetup, NoRoom or FrameBroken, in this order, and every buffer as lent
-  pub too-many : 256 < length f
-      → (rtuCalled n list l f reply ≡ refusing 10 l reply) ⊎ ((rtuCalled n list l f reply ≡ refusing 9 l reply) ⊎ (rtuCalled n list l f reply ≡ refusing 5 l reply))
-  too-many h = by (n .transport ≟ 0) (valid? (setupOf n list l reply)) (roomy? (setupOf n list l reply))
+  pub too-many : 256 < length (l .frame)
+      → (rtuCalled l ≡ refusing 10 l) ⊎ ((rtuCalled l ≡ refusing 9 l) ⊎ (rtuCalled l ≡ refusing 5 l))
+  too-many h = by (l .numbers .transport ≟ 0) (valid? (setupOf l)) (roomy? (setupOf l))
     where
-      by : Dec (n .transport ≡ 0) → Dec (Valid (setupOf n list l reply)) → Dec (Roomy (setupOf n list l reply))
-          → (rtuCalled n list l f reply ≡ refusing 10 l reply) ⊎ ((rtuCalled n list l f reply ≡ refusing 9 l reply) ⊎ (rtuCalled n list l f reply ≡ refusing 5 l reply))
-      by (no z) v r = inl (rtu-other n list l f reply z)
-      by (yes z) (no v) r = inl (rtu-driven n list l f reply z ∙ sym (bad-called n list l f reply v))
-      by (yes z) (yes v) (no r) = inr (inl (rtu-driven n list l f reply z ∙ sym (roomless-called n list l f reply v r)))
+      by : Dec (l .numbers .transport ≡ 0) → Dec (Valid (setupOf l)) → Dec (Roomy (setupOf l))
+          → (rtuCalled l ≡ refusing 10 l) ⊎ ((rtuCalled l ≡ refusing 9 l) ⊎ (rtuCalled l ≡ refusing 5 l))
+      by (no z) v r = inl (rtu-other l z)
+      by (yes z) (no v) r = inl (rtu-driven l z ∙ sym (bad-called l v))
+      by (yes z) (yes v) (no r) = inr (inl (rtu-driven l z ∙ sym (roomless-called l v r)))
       by (yes z) (yes v) (yes r) =
-          let e = subst (λ (p : ModbusProto). unwrap p (spelledIn p (n .hex) f) ≡ stop frameBroken) (sym (ap protoOf z)) (too-long f h) in
-          inr (inr (rtu-driven n list l f reply z ∙ sym (unopened-called n list l f reply v r 0 (sym (ap opened e)) (omega arith))))
+          let e = subst (λ (p : ModbusProto). unwrap p (spelledIn p (l .numbers .hex) (l .frame)) ≡ stop frameBroken) (sym (ap protoOf z)) (too-long (l .frame) h) in
+          inr (inr (rtu-driven l z ∙ sym (unopened-called l v r 0 (sym (ap opened e)) (omega arith))))

@@ -13,9 +13,7 @@ use contract.Lifetimes.{Lfts}
 use borrow.Fn.Kinds.{Dens, resT, endedOf}
 use denote.Triple.Clauses.{Lasts, atExit}
 use Rattle.modbus.specs.Paper.{sizePaper, toldWith}
-use Rattle.tables.specs.Lent.{Lent}
-use Rattle.driver.specs.declared.Setup.{Setup as Numbers}
-use Rattle.driver.specs.Driven.{lentIn, Leaves, leaving, called}
+use Rattle.driver.specs.Driven.{Call, lending, framing, Leaves, leaving, called}
 use Rattle.collector.specs.Collected.{heldIn, holding, offered, joined, emptied, refusing, rtuCalled, quieted, closedPaper, leftBy}
 use Rattle.collector.proofs.PartLaws.{take-again}
 use Rattle.collector.proofs.CollectedLaws.{held-holding, held-emptied, offered-more, rtu-driven, rtu-other, quiet-nothing, quiet-served}
@@ -61,20 +59,14 @@ calls-hold (more κs a x u gs t p cs) h k =
 -- a call of `quiet`: its arguments `a`, its result `x`, what it leaves at the exit `u`, and that these meet the contract
 module _ (κs : Lfts 7) (a : Dens κs quiet-kinds.ps) (x : resT quiet-kinds.r κs .Denot) (u : Lasts (endedOf 7 quiet-kinds.ps quiet-kinds.r) κs a)
     (post : quiet-reads.Post κs a x (atExit (endedOf 7 quiet-kinds.ps quiet-kinds.r) κs a u)) where
-  abbrev pub setup : Numbers
-  setup = a .0
-
-  abbrev pub list : List ℕ
-  list = now (a .1 .0)
-
-  abbrev pub lent : Lent
-  lent = lentIn setup (now (a .1 .1 .0)) (now (a .1 .1 .1 .0)) (now (a .1 .1 .1 .1 .0)) (now (a .1 .1 .1 .1 .1 .0))
-
   abbrev pub state : List ℕ
   state = now (a .1 .1 .1 .1 .1 .1 .0)
 
-  abbrev pub reply : List ℕ
-  reply = now (a .1 .1 .1 .1 .1 .1 .1 .0)
+  -- what is lent beside the collector
+  abbrev pub lent : Call
+  lent =
+      lending (a .0) (now (a .1 .0)) (now (a .1 .1 .0)) (now (a .1 .1 .1 .0)) (now (a .1 .1 .1 .1 .0)) (now (a .1 .1 .1 .1 .1 .0)) []
+      (now (a .1 .1 .1 .1 .1 .1 .1 .0))
 
   -- the collector at the exit; the result, in numbers, and the reply buffer, the coils and the holdings
   abbrev pub stateAfter : List ℕ
@@ -83,16 +75,16 @@ module _ (κs : Lfts 7) (a : Dens κs quiet-kinds.ps) (x : resT quiet-kinds.r κ
   abbrev pub leaves : Leaves
   leaves = leaving (closedPaper x) (u .1 .1 .1 .1 .1 .1 .1 .0) (u .1 .1 .0) (u .1 .1 .1 .1 .0)
 
-  in-numbers : _≡_ {A = Leaves × List ℕ} (leaves, stateAfter) (leftBy (quieted setup list lent state reply))
+  in-numbers : _≡_ {A = Leaves × List ℕ} (leaves, stateAfter) (leftBy (quieted state lent))
   in-numbers = ap leftBy post
 
   -- with nothing held it does nothing, whatever else is lent
-  pub nothing-held : heldIn state ≡ [] → _≡_ {A = Leaves × List ℕ} (leaves, stateAfter) (refusing 13 lent reply, state)
-  nothing-held e = in-numbers ∙ ap leftBy (quiet-nothing setup list lent state reply e)
+  pub nothing-held : heldIn state ≡ [] → _≡_ {A = Leaves × List ℕ} (leaves, stateAfter) (refusing 13 lent, state)
+  nothing-held e = in-numbers ∙ ap leftBy (quiet-nothing state lent e)
 
   -- with bytes held, it is the frame's call, and the collector is emptied
-  some-held : (f : List ℕ) → heldIn state ≡ f → 1 ≤ length f → _≡_ {A = Leaves × List ℕ} (leaves, stateAfter) (rtuCalled setup list lent f reply, emptied state)
-  some-held f e h = in-numbers ∙ ap leftBy (quiet-served setup list lent state reply f e h)
+  some-held : (f : List ℕ) → heldIn state ≡ f → 1 ≤ length f → _≡_ {A = Leaves × List ℕ} (leaves, stateAfter) (rtuCalled (framing lent f), emptied state)
+  some-held f e h = in-numbers ∙ ap leftBy (quiet-served state lent f e h)
 
   -- every quiet signal empties it
   pub empties : heldIn stateAfter ≡ []
@@ -103,10 +95,10 @@ module _ (κs : Lfts 7) (a : Dens κs quiet-kinds.ps) (x : resT quiet-kinds.r κ
       by (b ∷ f) e = ap (λ (p : Leaves × List ℕ). heldIn (p .1)) (some-held (b ∷ f) e (omega arith)) ∙ held-emptied state
 
   -- another transport than 0, with bytes held: BadSetup, and the collector is emptied
-  pub other-transport : 1 ≤ length (heldIn state) → ¬ (setup .transport ≡ 0)
-      → _≡_ {A = Leaves × List ℕ} (leaves, stateAfter) (refusing 10 lent reply, emptied state)
+  pub other-transport : 1 ≤ length (heldIn state) → ¬ (lent .numbers .transport ≡ 0)
+      → _≡_ {A = Leaves × List ℕ} (leaves, stateAfter) (refusing 10 lent, emptied state)
   other-transport h z =
-      some-held (heldIn state) refl h ∙ ap (λ (g : Leaves). (g, emptied state)) (rtu-other setup list lent (heldIn state) reply z)
+      some-held (heldIn state) refl h ∙ ap (λ (g : Leaves). (g, emptied state)) (rtu-other (framing lent (heldIn state)) z)
 
   -- after calls of `offer` from an empty collector, f being all their bytes in a row
   module _ (s : List ℕ) (gs : List (List ℕ)) (calls : Calls s gs state) (long : 259 ≤ length s) (fresh : heldIn s ≡ []) where
@@ -117,17 +109,17 @@ module _ (κs : Lfts 7) (a : Dens κs quiet-kinds.ps) (x : resT quiet-kinds.r κ
     collected = calls-hold calls long (rw fresh (omega arith)) .1 ∙ ap (λ (r : List ℕ). take 257 (r ++ frame)) fresh
 
     -- no byte in all the groups
-    pub no-byte : frame ≡ [] → _≡_ {A = Leaves × List ℕ} (leaves, stateAfter) (refusing 13 lent reply, state)
+    pub no-byte : frame ≡ [] → _≡_ {A = Leaves × List ℕ} (leaves, stateAfter) (refusing 13 lent, state)
     no-byte e = nothing-held (collected ∙ ap (take 257) e)
 
-    some-byte : 1 ≤ length frame → leaves ≡ rtuCalled setup list lent (take 257 frame) reply
+    some-byte : 1 ≤ length frame → leaves ≡ rtuCalled (framing lent (take 257 frame))
     some-byte h = ap (λ (p : Leaves × List ℕ). p .0) (some-held (take 257 frame) collected (simp length-take (omega arith)))
 
     -- however the bytes were grouped: outcome, code, length, reply, coils and holdings are the driver's of the whole frame
-    pub however-grouped : 1 ≤ length frame → setup .transport ≡ 0 → leaves ≡ called setup list lent frame reply
-    however-grouped h z = some-byte h ∙ rtu-driven setup list lent (take 257 frame) reply z ∙ called-cut setup list lent frame reply z
+    pub however-grouped : 1 ≤ length frame → lent .numbers .transport ≡ 0 → leaves ≡ called (framing lent frame)
+    however-grouped h z = some-byte h ∙ rtu-driven (framing lent (take 257 frame)) z ∙ called-cut lent frame z
 
     -- a 257th byte makes the frame broken, whatever it and those after it are: 10, 9 or 5, in document 01's order
-    pub broken : 256 < length frame → (leaves ≡ refusing 10 lent reply) ⊎ ((leaves ≡ refusing 9 lent reply) ⊎ (leaves ≡ refusing 5 lent reply))
+    pub broken : 256 < length frame → (leaves ≡ refusing 10 lent) ⊎ ((leaves ≡ refusing 9 lent) ⊎ (leaves ≡ refusing 5 lent))
     broken h =
-        rw (some-byte (omega arith)) (too-many setup list lent (take 257 frame) reply (simp length-take (omega arith)))
+        rw (some-byte (omega arith)) (too-many (framing lent (take 257 frame)) (simp length-take (omega arith)))

@@ -5,9 +5,8 @@ use mathlib.Core.List.{List, [], _∷_, _++_}
 use Prim.Native.Nat.{ℕ}
 use lib.ListN.{take, replicate}
 use Rattle.modbus.specs.Paper.{toldWith}
-use Rattle.tables.specs.Lent.{Lent}
 use Rattle.driver.specs.declared.Setup.{Setup as Numbers}
-use Rattle.driver.specs.Driven.{Leaves, lentIn}
+use Rattle.driver.specs.Driven.{lending, Leaves}
 use Rattle.collector.specs.Collected.{offered, quieted, leftBy}
 
 -- bytes are offered: how many are held then; or the line falls quiet, on a transport and with room for a reply: the outcome, the code, the reply,
@@ -20,7 +19,7 @@ abbrev numbers : ℕ → Numbers
 numbers t = record { transport = t; unit = 1; hex = 0; «coil_cells» = 16; «discrete_cells» = 0; «holding_cells» = 4; «input_cells» = 0 }
 
 abbrev quietedIn : ℕ → ℕ → List ℕ → List ℕ → Leaves × List ℕ
-quietedIn t room s h = leftBy (quieted (numbers t) (0 ∷ []) (lentIn (numbers t) (0 ∷ 0 ∷ []) [] h []) s (replicate room 0))
+quietedIn t room s h = leftBy (quieted s (lending (numbers t) (0 ∷ []) (0 ∷ 0 ∷ []) [] h [] [] (replicate room 0)))
 
 abbrev shown : ℕ → ℕ → Leaves → Event
 shown t room g =

@@ -10,10 +10,8 @@ use Rattle.modbus.specs.Step.{Step, go, _>>_, need, choose, _≤?_, _≟_, _and
 use Rattle.modbus.specs.Bytes.{two, wordAt}
 use Rattle.modbus.specs.declared.ErrorKind.{ErrorKind}
 use Rattle.modbus.specs.declared.ErrorKind.the-variants.{OOB}
-use Rattle.tables.specs.Lent.{Lent}
-use Rattle.driver.specs.declared.Setup.{Setup as Numbers}
 use Rattle.driver.specs.declared.Driven.{Driven}
-use Rattle.driver.specs.Driven.{resulting, Leaves, leaving, called}
+use Rattle.driver.specs.Driven.{Call, framing, resulting, Leaves, leaving, called}
 use Rattle.collector.specs.declared.Closed.{Closed}
 use Rattle.collector.specs.declared.Closed.the-variants.{Nothing, Served}
 
@@ -42,12 +40,12 @@ abbrev pub emptied : List ℕ → List ℕ
 emptied s = holding s []
 
 -- no byte is changed and no reply sent
-abbrev pub refusing : ℕ → Lent → List ℕ → Leaves
-refusing o l reply = leaving (resulting o 0 0 []) reply (l .coilBytes) (l .holdingBytes)
+abbrev pub refusing : ℕ → Call → Leaves
+refusing o l = leaving (resulting o 0 0 []) (l .reply) (l .tables .coilBytes) (l .tables .holdingBytes)
 
 -- a whole frame: the driver's call on transport 0, and BadSetup on any other
-unfoldable pub rtuCalled : Numbers → List ℕ → Lent → List ℕ → List ℕ → Leaves
-rtuCalled n list l f reply = choose (n .transport ≟ 0) (called n list l f reply) (refusing 10 l reply)
+unfoldable pub rtuCalled : Call → Leaves
+rtuCalled l = choose (l .numbers .transport ≟ 0) (called l) (refusing 10 l)
 
 -- what a quiet signal leaves: whether a frame was closed and what became of it, the reply buffer, the coils, the holdings, the collector
 pub record Quieted : Type 0 where
@@ -65,12 +63,13 @@ abbrev pub served : List ℕ → Leaves → Quieted
 served s g = quieting (Served (g .result)) (g .replyBytes) (g .coilBytes) (g .holdingBytes) (emptied s)
 
 -- with nothing held it does nothing
-abbrev pub closing : Numbers → List ℕ → Lent → List ℕ → List ℕ → List ℕ → Quieted
-closing n list l s reply [] = quieting Nothing reply (l .coilBytes) (l .holdingBytes) s
-closing n list l s reply (b ∷ f) = served s (rtuCalled n list l (b ∷ f) reply)
+abbrev pub closing : List ℕ → Call → List ℕ → Quieted
+closing s l [] = quieting Nothing (l .reply) (l .tables .coilBytes) (l .tables .holdingBytes) s
+closing s l (b ∷ f) = served s (rtuCalled (framing l (b ∷ f)))
 
-abbrev pub quieted : Numbers → List ℕ → Lent → List ℕ → List ℕ → Quieted
-quieted n list l s reply = closing n list l s reply (heldIn s)
+-- the collector, and what is lent beside it: its frame is what the collector holds
+abbrev pub quieted : List ℕ → Call → Quieted
+quieted s l = closing s l (heldIn s)
 
 -- ---- in numbers: NothingHeld is outcome 13, after document 01's
 

@@ -12,7 +12,7 @@ ghost use mathlib.Core.List.{[]};
 ghost use Prim.Native.Nat.{_+_, _≤_};
 ghost use lib.ListN.{length, take, drop};
 ghost use Rattle.modbus.specs.Paper.{toldWith, sizePaper};
-ghost use Rattle.driver.specs.Driven.{lentIn, resulting, leaving};
+ghost use Rattle.driver.specs.Driven.{lending, resulting, leaving};
 ghost use Rattle.collector.specs.Collected.{heldIn, offered, rtuCalled, quieting, quieted, closedPaper};
 ghost use Rattle.collector.specs.Waits.{Waits};
 
@@ -100,9 +100,8 @@ fn serve(
     frame: &[u8],
     reply: &mut [u8],
 ) -> Driven
-    ensures { λ r. ⌜ leaving r (now (reply .exit)) (now (coils .exit)) (now (holdings .exit)) ≡ rtuCalled setup (now (list .entry))
-        (lentIn setup (now (coils .entry)) (now (discretes .entry)) (now (holdings .entry)) (now (inputs .entry)))
-        (now (frame .entry)) (now (reply .entry)) ⌝ }
+    ensures { λ r. ⌜ leaving r (now (reply .exit)) (now (coils .exit)) (now (holdings .exit)) ≡ rtuCalled (lending setup (now (list .entry))
+        (now (coils .entry)) (now (discretes .entry)) (now (holdings .entry)) (now (inputs .entry)) (now (frame .entry)) (now (reply .entry))) ⌝ }
 {
     if setup.transport != 0 {
         return refused(10);
@@ -129,9 +128,8 @@ pub fn quiet(
     state: &mut [u8],
     reply: &mut [u8],
 ) -> Closed
-    ensures { λ r. ⌜ quieting r (now (reply .exit)) (now (coils .exit)) (now (holdings .exit)) (now (state .exit)) ≡ quieted setup (now (list .entry))
-        (lentIn setup (now (coils .entry)) (now (discretes .entry)) (now (holdings .entry)) (now (inputs .entry)))
-        (now (state .entry)) (now (reply .entry)) ⌝ }
+    ensures { λ r. ⌜ quieting r (now (reply .exit)) (now (coils .exit)) (now (holdings .exit)) (now (state .exit)) ≡ quieted (now (state .entry))
+        (lending setup (now (list .entry)) (now (coils .entry)) (now (discretes .entry)) (now (holdings .entry)) (now (inputs .entry)) [] (now (reply .entry))) ⌝ }
 {
     let Held::Bytes(n) = waiting(state) else {
         return Closed::Nothing;

@@ -6,13 +6,14 @@ use driver::Setup;
 use modbus::Answer;
 use modbus::ProtoAnswer;
 ghost use mathlib.Core.Path.{_≡_};
+ghost use mathlib.Core.List.{[]};
 ghost use lib.ListN.{length};
 ghost use Rattle.modbus.specs.Step.{go};
 ghost use Rattle.modbus.specs.Request.{masks, swaps};
 ghost use Rattle.modbus.specs.Paper.{toldWith};
 ghost use Rattle.ascii.specs.Reading.{parsedUnder, generatedInto};
 ghost use Rattle.lengths.specs.Guess.{requestBody, responseBody};
-ghost use Rattle.driver.specs.Driven.{lentIn, leaving, called};
+ghost use Rattle.driver.specs.Driven.{lending, leaving, called};
 ghost use Rattle.client.specs.Asking.{getting, setting, generated, laidInto, understood, readInto};
 ghost use Rattle.collector.specs.Collected.{offered, quieted, leftBy};
 ghost use Rattle.dalonjang.specs.Numbered.{sideBody, guessed};
@@ -28,9 +29,8 @@ pub extern "C" fn dalonjang_drive(
     frame: &[u8],
     reply: &mut [u8],
 ) -> Driven
-    ensures { λ r. ⌜ leaving r (now (reply .exit)) (now (coils .exit)) (now (holdings .exit)) ≡ called setup (now (list .entry))
-        (lentIn setup (now (coils .entry)) (now (discretes .entry)) (now (holdings .entry)) (now (inputs .entry)))
-        (now (frame .entry)) (now (reply .entry)) ⌝ }
+    ensures { λ r. ⌜ leaving r (now (reply .exit)) (now (coils .exit)) (now (holdings .exit)) ≡ called (lending setup (now (list .entry))
+        (now (coils .entry)) (now (discretes .entry)) (now (holdings .entry)) (now (inputs .entry)) (now (frame .entry)) (now (reply .entry))) ⌝ }
 {
     driver::drive(
         setup,
@@ -62,9 +62,8 @@ pub extern "C" fn dalonjang_quiet(
     state: &mut [u8],
     reply: &mut [u8],
 ) -> Driven
-    ensures { λ r. ⌜ (leaving r (now (reply .exit)) (now (coils .exit)) (now (holdings .exit)), now (state .exit)) ≡ leftBy (quieted setup (now (list .entry))
-        (lentIn setup (now (coils .entry)) (now (discretes .entry)) (now (holdings .entry)) (now (inputs .entry)))
-        (now (state .entry)) (now (reply .entry))) ⌝ }
+    ensures { λ r. ⌜ (leaving r (now (reply .exit)) (now (coils .exit)) (now (holdings .exit)), now (state .exit)) ≡ leftBy (quieted (now (state .entry))
+        (lending setup (now (list .entry)) (now (coils .entry)) (now (discretes .entry)) (now (holdings .entry)) (now (inputs .entry)) [] (now (reply .entry)))) ⌝ }
 {
     collector::outcome_of(collector::quiet(
         setup,

@@ -1,16 +1,12 @@
 -- All that is promised, of the driver's code: its contract, as the checker reads it (`Post`), gives it of every call, whatever the setup's
 -- numbers, the list, the tables and the reply buffer. The discretes and the inputs are lent to be read, so nothing of theirs stands at the exit.
 -- Assumes that the elements of the frame are bytes, as those of every slice of bytes are.
-use mathlib.Core.List.{List}
-use Prim.Native.Nat.{ℕ}
 use denote.Ref.{now}
 use contract.Lifetimes.{Lfts}
 use borrow.Fn.Kinds.{Out, Dens, resT, endedOf}
 use denote.Triple.Clauses.{Lasts, atExit}
 use Rattle.modbus.specs.Bytes.{Bytes}
-use Rattle.modbus.specs.Setup.{Setup}
-use Rattle.tables.specs.Lent.{Lent}
-use Rattle.driver.specs.Driven.{lentIn, setupOf, Leaves, leaving}
+use Rattle.driver.specs.Driven.{Call, lending, Leaves, leaving}
 use Rattle.driver.proofs.drive.Kinds as drive-kinds
 use Rattle.driver.proofs.drive.Reads as drive-reads
 use Rattle.demands.specs.Promised.{Promised}
@@ -18,17 +14,10 @@ use Rattle.demands.proofs.OnBytes.{promised}
 
 -- a call with these arguments: what it is lent
 module _ (κs : Lfts 7) (a : Dens κs drive-kinds.ps) where
-  abbrev pub lent : Lent
-  lent = lentIn (a .0) (now (a .1 .1 .0)) (now (a .1 .1 .1 .0)) (now (a .1 .1 .1 .1 .0)) (now (a .1 .1 .1 .1 .1 .0))
-
-  abbrev pub frame : List ℕ
-  frame = now (a .1 .1 .1 .1 .1 .1 .0)
-
-  abbrev pub reply : List ℕ
-  reply = now (a .1 .1 .1 .1 .1 .1 .1 .0)
-
-  abbrev pub setup : Setup
-  setup = setupOf (a .0) (now (a .1 .0)) lent reply
+  abbrev pub lent : Call
+  lent =
+      lending (a .0) (now (a .1 .0)) (now (a .1 .1 .0)) (now (a .1 .1 .1 .0)) (now (a .1 .1 .1 .1 .0)) (now (a .1 .1 .1 .1 .1 .0))
+      (now (a .1 .1 .1 .1 .1 .1 .0)) (now (a .1 .1 .1 .1 .1 .1 .1 .0))
 
   -- and what it leaves, with the result `x` and the slices `u` at the exit: the reply buffer, the coils and the holdings
   abbrev pub left : resT drive-kinds.r κs .Denot → Lasts (endedOf 7 drive-kinds.ps drive-kinds.r) κs a → Leaves
@@ -38,8 +27,7 @@ module _ (κs : Lfts 7) (a : Dens κs drive-kinds.ps) where
 abbrev pub Promises : Out 7 drive-kinds.ps drive-kinds.r → Type 0
 Promises Post =
     (κs : Lfts 7) (a : Dens κs drive-kinds.ps) (x : resT drive-kinds.r κs .Denot) (u : Lasts (endedOf 7 drive-kinds.ps drive-kinds.r) κs a)
-    → Post κs a x (atExit (endedOf 7 drive-kinds.ps drive-kinds.r) κs a u) → Bytes (frame κs a)
-    → Promised (setup κs a) (lent κs a) (frame κs a) (reply κs a) (left κs a x u)
+    → Post κs a x (atExit (endedOf 7 drive-kinds.ps drive-kinds.r) κs a u) → Bytes (lent κs a .frame) → Promised (lent κs a) (left κs a x u)
 
 pub drive : Promises drive-reads.Post
-drive κs a x u post y = promised (a .0) _ (lent κs a) (frame κs a) (reply κs a) y _ post
+drive κs a x u post y = promised (lent κs a) y _ post

@@ -6,9 +6,9 @@ use mathlib.Core.Path.{_≡_, ap, sym, _∙_}
 use mathlib.Core.List.{List, [], _∷_, List·Memᴰ·not-nil}
 use Prim.Native.Nat.{ℕ, _-_, _%_, _≤_, _<_}
 use native.Mathlib.Omega.{arith}
-use lib.ListN.{length, take, drop, getD}
+use lib.ListN.{length, take, drop, getD, length-replicate}
 use Rattle.modbus.specs.Bytes.{Bytes, pack}
-use Rattle.modbus.specs.Table.{bit, Tables, Tab, coils, holdings, part}
+use Rattle.modbus.specs.Table.{bit, Tables, Tab, coils, holdings, every, part}
 use Rattle.modbus.specs.Paper.{rangePaper}
 use Rattle.modbus.specs.Storage.{coilAt, values}
 use Rattle.modbus.specs.Frame.{Framed}
@@ -19,8 +19,7 @@ use Rattle.modbus.specs.declared.ModbusProto.{ModbusProto}
 use Rattle.modbus.specs.declared.ModbusProto.the-variants.{Rtu}
 use Rattle.modbus.proofs.StepLaws.{needed}
 use Rattle.modbus.proofs.FrameLaws.{complete}
-use Rattle.tables.specs.Lent.{Lent}
-use Rattle.driver.specs.Driven.{Leaves}
+use Rattle.driver.specs.Driven.{Call, setupOf, Leaves}
 use Rattle.demands.specs.Demand.{Request, Serves}
 use Rattle.demands.specs.Changed.{Steady}
 use Rattle.demands.specs.Order.{no-room, frame-check}
@@ -42,7 +41,8 @@ unframed f n tag body h = needed _ _ _ (complete Rtu tag body f h) λ p e. neede
 
 module _ (D : Driver) where
   on-tcp : Meets D → (t : Tables) (f : List ℕ) → Bytes f → D (setup 2) t f ≡ drive (setup 2) t f
-  on-tcp m t f y = only D m (setup 2) t f y (omega arith) (omega arith)
+  on-tcp m t f y = only D m (setup 2) t f y (record { transport = omega arith; hex = omega arith; held = every _ (omega arith) })
+      (omega (arith, length-replicate {A = ℕ} 511 0))
 
   -- ---- impostors
 
@@ -124,19 +124,19 @@ module _ (D : Driver) where
 
 -- ---- calls on bytes, which the demand alone does not tell from the driver: it asks for a valid setup with reply room
 
-module _ (s : Setup) (l : Lent) (frame reply : List ℕ) (g : Leaves) where
+module _ (l : Call) (g : Leaves) where
   -- refusing by its number, and storing all the same
-  pub refusing-but-storing : 2 ≤ g .result .outcome → (g .coilBytes ≢ l .coilBytes) ⊎ (g .holdingBytes ≢ l .holdingBytes)
-      → ¬ Promised s l frame reply g
+  pub refusing-but-storing : 2 ≤ g .result .outcome → (g .coilBytes ≢ l .tables .coilBytes) ⊎ (g .holdingBytes ≢ l .tables .holdingBytes)
+      → ¬ Promised l g
   refusing-but-storing high (inl n) p = n (p .unchanged high .0)
   refusing-but-storing high (inr n) p = n (p .unchanged high .1)
 
   -- naming nothing by its numbers, and storing all the same
-  pub storing-unnamed : g .result .table ≡ 0 → (i : ℕ) → coilAt (g .coilBytes) i ≢ coilAt (l .coilBytes) i → ¬ Promised s l frame reply g
+  pub storing-unnamed : g .result .table ≡ 0 → (i : ℕ) → coilAt (g .coilBytes) i ≢ coilAt (l .tables .coilBytes) i → ¬ Promised l g
   storing-unnamed e i n p = n (p .held .bits i (λ h. let z : _≡_ {A = ℕ} 0 1 = sym e ∙ h .0 in omega arith))
 
   -- serving where there is no room for the reply
-  pub serving-without-room : Valid s → ¬ Roomy s → g .result .outcome < 2 → ¬ Promised s l frame reply g
+  pub serving-without-room : Valid (setupOf l) → ¬ Roomy (setupOf l) → g .result .outcome < 2 → ¬ Promised l g
   serving-without-room v n low p =
       let e = ap (λ (x : Leaves). x .result .outcome) (p .refused 9 0 [] (omega arith) .0 (no-room v n)) in
       omega arith

@@ -13,12 +13,13 @@ use Rattle.modbus.specs.Request.{Fn, code, offered, Ask, fnOf, exception}
 use Rattle.modbus.specs.Frame.{Framed}
 use Rattle.modbus.specs.Setup.{Setup, proto, Valid, Roomy}
 use Rattle.modbus.specs.Unit.{Broadcast, broadcast?, Ours}
-use Rattle.modbus.specs.Decode.{Message, unitOf, numberOf, Silent, readIgnored, foreign, frameBroken, frameCheck, wrongLength, badFunction, noRoom, badSetup, outcomeOf, unwrap, IsRead, isRead?, asked}
-use Rattle.modbus.specs.Drive.{Inside, Fault, quiet, coded, find, fromFunction, fromUnit, spelled, judge, Result, silently, replying, settle, drive}
+use Rattle.modbus.specs.Decode.{Message, unitOf, numberOf, Silent, readIgnored, foreign, frameBroken, frameCheck, wrongLength, badFunction, noRoom, badSetup, outcomeOf, unwrap, IsRead, isRead?, Lengthy, Valued, asked}
+use Rattle.modbus.specs.Drive.{Inside, Fault, quiet, coded, find, weigh, fromUnit, spelled, judge, Result, silently, replying, settle, drive}
 use Rattle.modbus.proofs.StepLaws.{pass, fail, follow, halt, bound, needed, bound-stop, needed-stop, pick-yes, pick-no, either}
 use Rattle.modbus.proofs.RequestLaws.{asked-says, says-heard, fn-asked}
 use Rattle.modbus.proofs.FrameLaws.{sound, complete, bytes-spelled}
-use Rattle.modbus.proofs.FindLaws.{code-low, find-fn, found-fn, find-none, found-none, found-fault}
+use Rattle.modbus.proofs.FindLaws.{find-fn, found-fn, found-none, found-fault}
+use Rattle.modbus.proofs.WeighLaws.{weigh-high, weigh-none, weigh-read, weigh-length, weigh-value, weigh-address, weigh-goes, went}
 use Rattle.modbus.proofs.DriveLaws.{quietly-go, quietly-stop, went-quietly, stopped-quietly}
 use Rattle.demands.specs.Demand.{Request, Addressed, Serves}
 use Rattle.demands.specs.Order.{Sent, Known, Coded, exception-sent, ignored, Refusal, bad-setup, no-room, frame-broken, frame-check, foreign as foreign-unit, bad-function, no-function, read-ignored, wrong-length, bad-value, bad-address}
@@ -31,14 +32,10 @@ module _ (s : Setup) (f : List ℕ) where
   judge-sent m h =
       pass _ _ _ (h .valid) ∙ pass _ _ _ (h .roomy) ∙ follow _ _ (quietly-go _ (complete _ _ _ (spelled s f) (h .framed)))
 
-  judge-known : (m : Message) (fn : Fn) → Known s f m fn → judge s f ≡ fromFunction s m fn
-  judge-known m fn h =
-      let low : numberOf m ≤ 127 = rw (h .called) (code-low fn) in
-      judge-sent m (h .sent)
-      ∙ pass _ _ _ (h .reached)
-      ∙ pass _ _ _ low
-      ∙ follow _ _ (find-fn _ _ (proto s) fn (h .called))
-      ∙ pass _ _ _ (h .heeded)
+  -- once the unit is ours, the body is weighed
+  judge-stops : (m : Message) {x : Fault} → Sent s f m → Broadcast s (unitOf m) ⊎ Ours s (unitOf m)
+      → weigh quiet (coded m) s (broadcast? s (unitOf m)) (m .body) ≡ stop x → judge s f ≡ stop x
+  judge-stops m h r e = judge-sent m h ∙ pass _ _ _ r ∙ halt _ _ e
 
 -- ---- what is served
 
@@ -59,29 +56,50 @@ heeded : (s : Setup) (r : Request) → Addressed s r → ¬ (Broadcast s (r .uni
 heeded s r (inl h) x = h .1 (x .1)
 heeded s r (inr h) x = h .1 (x .0)
 
+-- a frame that goes through: to us, of a function, of its length and values, with its cells inside
+pub record Judged (s : Setup) (f : List ℕ) (m : Message) (a : Ask) (fn : Fn) : Type 0 where
+  pub known : Known s f m fn
+  pub lengthy : Lengthy fn (m .body)
+  pub valued : Valued fn (m .body)
+  pub inside : Inside s (asked fn (m .body))
+  pub asks : asked fn (m .body) ≡ a
+
 module _ (s : Setup) (f : List ℕ) (y : Bytes f) where
-  pub judge-serves : (m : Message) (a : Ask) → judge s f ≡ go (m, a) → Serves s f (requested m a)
+  pub judged : (m : Message) (a : Ask) → judge s f ≡ go (m, a) → (fn : Fn) × Judged s f m a fn
   unfolding judge
-  judge-serves m a e =
+  judged m a e =
       needed _ _ _ e λ valid e₁.
       needed _ _ _ e₁ λ roomy e₂.
       bound _ _ e₂ λ n unwrapped e₃.
       needed _ _ _ e₃ λ reached e₄.
-      needed _ _ _ e₄ λ low e₅.
-      bound _ _ e₅ λ fn called e₆.
-      needed _ _ _ e₆ λ heeded e₇.
-      needed _ _ _ e₇ λ lengthy e₈.
-      needed _ _ _ e₈ λ valued e₉.
-      needed _ _ _ e₉ λ inside e₁₀.
-      let framed = sound _ (spelled s f) n (bytes-spelled (proto s) (s .hex) f y) (went-quietly _ unwrapped) in
-      let says = asked-says fn (n .body) (framed .bytes) (found-fn code _ _ _ fn called) lengthy valued in
-      let z : _≡_ {A = Message × Ask} (n, asked fn (n .body)) (m, a) = cc in
-      subst (λ w. Serves s f (requested (w .0) (w .1))) z
+      bound _ _ e₄ λ a′ weighs e₅.
+      went _ _ s _ (n .body) weighs λ fn called heeded lengthy valued inside asks.
+      let sent : Sent s f n =
+      record { valid = valid; roomy = roomy; framed = sound _ (spelled s f) n (bytes-spelled (proto s) (s .hex) f y) (went-quietly _ unwrapped) } in
+      let z : _≡_ {A = Message × Ask} (n, a′) (m, a) = cc in
+      subst (λ w. (fn : Fn) × Judged s f (w .0) (w .1) fn) z (
+        fn,
+        record {
+          known = record { sent = sent; reached = reached; called = called; heeded = heeded };
+          lengthy = lengthy;
+          valued = valued;
+          inside = subst (Inside s) (sym asks) inside;
+          asks = asks;
+        },
+      )
+
+  pub judge-serves : (m : Message) (a : Ask) → judge s f ≡ go (m, a) → Serves s f (requested m a)
+  judge-serves m a e =
+      let (fn, j) = judged m a e in
+      let k = j .known in
+      let framed = k .sent .framed in
+      let says = asked-says fn (m .body) (framed .bytes) (k .called) (j .lengthy) (j .valued) in
+      subst (λ x. Serves s f (requested m x)) (j .asks)
       (record {
         permitted = says .permitted;
-        encoded = (drop 1 (n .body), says .encodes, subst (λ b. Framed (proto s) (n .tag) b (spelled s f)) (says .headed) framed);
-        inside = inside;
-        addressed = addressed s n fn (asked fn (n .body)) (fn-asked fn (n .body)) (broadcast? s (unitOf n)) reached heeded;
+        encoded = (drop 1 (m .body), says .encodes, subst (λ b. Framed (proto s) (m .tag) b (spelled s f)) (says .headed) framed);
+        inside = j .inside;
+        addressed = addressed s m fn (asked fn (m .body)) (fn-asked fn (m .body)) (broadcast? s (unitOf m)) (k .reached) (k .heeded);
       })
 
 module _ (s : Setup) (f : List ℕ) where
@@ -91,16 +109,10 @@ module _ (s : Setup) (f : List ℕ) where
   pub serves-judge : Valid s → Roomy s → (r : Request) (h : Serves s f r) → judge s f ≡ go (message r h, r .ask)
   serves-judge valid roomy r h =
       let heard = says-heard (r .ask) (r .unit) (h .encoded .0) (h .permitted) (h .encoded .1) in
-      judge-known s f (message r h) (fnOf (r .ask))
-      (record {
-        sent = record { valid = valid; roomy = roomy; framed = h .encoded .2 };
-        reached = reached s r (h .addressed);
-        called = heard .number;
-        heeded = heeded s r (h .addressed);
-      })
-      ∙ pass _ _ _ (heard .lengthy)
-      ∙ pass _ _ _ (heard .valued)
-      ∙ pass _ _ _ (rw (heard .asks) (h .inside))
+      judge-sent s f (message r h) (record { valid = valid; roomy = roomy; framed = h .encoded .2 })
+      ∙ pass _ _ _ (reached s r (h .addressed))
+      ∙ follow _ _ (weigh-goes _ _ s _ _ (fnOf (r .ask)) (heard .number) (heeded s r (h .addressed)) (heard .lengthy) (heard .valued)
+      (rw (heard .asks) (h .inside)))
       ∙ rw (heard .asks)
 
 -- ---- what is refused
@@ -134,20 +146,21 @@ module _ (s : Setup) (t : Tables) (f : List ℕ) where
   refusal-returns y (foreign-unit m h n k) =
       quiet-returns foreign (judge-sent s f m h ∙ fail _ _ _ (λ r. elim r [ inl b ↦ n b | inr o ↦ k o ]))
   refusal-returns y (bad-function m h r k) =
-      quiet-returns badFunction (judge-sent s f m h ∙ pass _ _ _ r ∙ fail _ _ _ (λ (l : numberOf m ≤ 127). omega arith))
+      quiet-returns badFunction (judge-stops s f m h r (weigh-high _ _ s _ _ (λ (l : numberOf m ≤ 127). omega arith)))
   refusal-returns y (no-function m h r l n c) =
-      coded-returns c (judge-sent s f m h ∙ pass _ _ _ r ∙ pass _ _ _ l ∙ halt _ _ (find-none code _ _ n (offered (proto s))))
+      coded-returns c (judge-stops s f m h r (weigh-none _ _ s _ _ l n))
   refusal-returns y (read-ignored m fn h b e i) =
-      let low : numberOf m ≤ 127 = rw e (code-low fn) in
-      quiet-returns readIgnored
-      (judge-sent s f m h ∙ pass _ _ _ (inl b) ∙ pass _ _ _ low ∙ follow _ _ (find-fn _ _ (proto s) fn e) ∙ fail _ _ _ (λ n. n (b, i)))
-  refusal-returns y (wrong-length m fn h n) = quiet-returns wrongLength (judge-known s f m fn h ∙ fail _ _ _ n)
+      quiet-returns readIgnored (judge-stops s f m h (inl b) (weigh-read _ _ s _ _ fn e b i))
+  refusal-returns y (wrong-length m fn h n) =
+      quiet-returns wrongLength (judge-stops s f m (h .sent) (h .reached) (weigh-length _ _ s _ _ fn (h .called) (h .heeded) n))
   refusal-returns y (bad-value m fn h l n c) =
-      coded-returns c (judge-known s f m fn h ∙ pass _ _ _ l ∙ fail _ _ _ (value-by-places s f m fn h l .0 n))
+      coded-returns c
+      (judge-stops s f m (h .sent) (h .reached) (weigh-value _ _ s _ _ fn (h .called) (h .heeded) l (value-by-places s f m fn h l .0 n)))
   refusal-returns y (bad-address m a h q n c) =
       let k = asks-heard s f m a (h .sent) q in
       coded-returns c
-      (judge-known s f m (fnOf a) h ∙ pass _ _ _ (k .lengthy) ∙ pass _ _ _ (k .valued) ∙ fail _ _ _ (λ i. n (subst (Inside s) (k .asks) i)))
+      (judge-stops s f m (h .sent) (h .reached)
+      (weigh-address _ _ s _ _ (fnOf a) (h .called) (h .heeded) (k .lengthy) (k .valued) (λ i. n (subst (Inside s) (k .asks) i))))
 
   -- the refusal that a fault is settled as
   abbrev Refused : Fault → Type 0
@@ -180,15 +193,11 @@ module _ (s : Setup) (t : Tables) (f : List ℕ) where
   read-refused m fn h e n =
       by-cases (broadcast? s (unitOf m) and? isRead? fn) (λ (b, i). read-ignored m fn h b e i) (λ k. absurd (n k))
 
-  pub judge-refused : Bytes f → (x : Fault) → judge s f ≡ stop x → Refused x
-  unfolding judge settle
-  judge-refused y x e =
-      needed-stop _ _ _ e (λ n q. subst Refused q (bad-setup n)) λ valid e₁.
-      needed-stop _ _ _ e₁ (λ n q. subst Refused q (no-room valid n)) λ roomy e₂.
-      bound-stop _ _ e₂ (λ q. stopped-quietly _ q λ o p z. subst Refused z (frame-refused y valid roomy o p)) λ m unwrapped e₃.
-      let sent : Sent s f m =
-      record { valid = valid; roomy = roomy; framed = sound _ (spelled s f) m (bytes-spelled (proto s) (s .hex) f y) (went-quietly _ unwrapped) } in
-      needed-stop _ _ _ e₃ (λ n q. subst Refused q (foreign-unit m sent (λ b. n (inl b)) (λ o. n (inr o)))) λ reached e₄.
+  -- a fault from the function on
+  weighed-refused : (m : Message) → Sent s f m → Broadcast s (unitOf m) ⊎ Ours s (unitOf m) → {x : Fault}
+      → weigh quiet (coded m) s (broadcast? s (unitOf m)) (m .body) ≡ stop x → Refused x
+  unfolding weigh settle
+  weighed-refused m sent reached e₄ =
       needed-stop _ _ _ e₄ (λ n q. subst Refused q (bad-function m sent reached (omega (arith, n)))) λ low e₅.
       bound-stop _ _ e₅ (λ q. function-refused m sent reached low q) λ fn found e₆.
       let called = found-fn code _ _ _ fn found in
@@ -202,3 +211,14 @@ module _ (s : Setup) (t : Tables) (f : List ℕ) where
       needed-stop _ _ _ e₉
       (λ n q. subst Refused q (coded-refused m 2 λ _ _ c. bad-address m a known-a (places-ask s f m fn known lengthy valued) n c)) λ inside e₁₀.
       let z : _≡_ {A = ℕ} 0 1 = cc in absurd (omega arith)
+
+  pub judge-refused : Bytes f → (x : Fault) → judge s f ≡ stop x → Refused x
+  unfolding judge settle
+  judge-refused y x e =
+      needed-stop _ _ _ e (λ n q. subst Refused q (bad-setup n)) λ valid e₁.
+      needed-stop _ _ _ e₁ (λ n q. subst Refused q (no-room valid n)) λ roomy e₂.
+      bound-stop _ _ e₂ (λ q. stopped-quietly _ q λ o p z. subst Refused z (frame-refused y valid roomy o p)) λ m unwrapped e₃.
+      let sent : Sent s f m =
+      record { valid = valid; roomy = roomy; framed = sound _ (spelled s f) m (bytes-spelled (proto s) (s .hex) f y) (went-quietly _ unwrapped) } in
+      needed-stop _ _ _ e₃ (λ n q. subst Refused q (foreign-unit m sent (λ b. n (inl b)) (λ o. n (inr o)))) λ reached e′.
+      bound-stop _ _ e′ (λ e₄. weighed-refused m sent reached e₄) λ a w q. let z : _≡_ {A = ℕ} 0 1 = cc in absurd (omega arith)

@@ -21,8 +21,7 @@ use Rattle.modbus.proofs.StepLaws.{needed}
 use Rattle.modbus.proofs.DriveLaws.{stop-after, stop-changed, go-low, go-after, go-changed, by-judge}
 use Rattle.modbus.proofs.PaperLaws.{range-told}
 use Rattle.tables.specs.Lent.{Lent, tableOf, cellsOf, tablesOf}
-use Rattle.driver.specs.Driven.{setupOf, bytesBy, resultOf, Leaves, leaving, driven, called}
-use Rattle.driver.specs.declared.Setup.{Setup as Numbers}
+use Rattle.driver.specs.Driven.{Call, setupOf, bytesBy, resultOf, Leaves, leaving, called}
 use Rattle.demands.specs.Demand.{Demand3}
 use Rattle.demands.specs.Order.{Refusal, bad-setup, no-room}
 use Rattle.demands.specs.Changed.{Outside, Names, Held}
@@ -52,13 +51,22 @@ fits s t f y =
 front : (l vs : List ℕ) → length vs ≤ length l → sets l 0 vs ≡ vs ++ drop (length vs) l
 front l vs h = sets-eq vs l 0 (omega arith) ∙ rw zero-add
 
-module _ (n : Numbers) (list : List ℕ) (l : Lent) (frame reply : List ℕ) (y : Bytes frame) where
+module _ (lent : Call) (y : Bytes (lent .frame)) where
+  abbrev l : Lent
+  l = lent .tables
+
   abbrev s : Setup
-  s = setupOf n list l reply
+  s = setupOf lent
+
+  abbrev frame : List ℕ
+  frame = lent .frame
+
+  abbrev reply : List ℕ
+  reply = lent .reply
 
   -- what the call gives on bytes, and what the definitions say on cells
   abbrev call : Leaves
-  call = called n list l frame reply
+  call = called lent
 
   abbrev due : Result
   due = drive s (tablesOf l) frame
@@ -66,7 +74,7 @@ module _ (n : Numbers) (list : List ℕ) (l : Lent) (frame reply : List ℕ) (y 
   -- ---- the tables
 
   call-after : tablesOf (lentAfter l call) ≡ due .after
-  unfolding driven drive
+  unfolding called drive
   call-after =
       by-judge s frame
       (λ x e. rw (e, stop-after s (tablesOf l) x))
@@ -78,7 +86,7 @@ module _ (n : Numbers) (list : List ℕ) (l : Lent) (frame reply : List ℕ) (y 
       (apply-stored a (tablesOf l) (h .permitted))))
 
   call-lengths : (length (call .coilBytes) ≡ length (l .coilBytes)) × (length (call .holdingBytes) ≡ length (l .holdingBytes))
-  unfolding driven
+  unfolding called
   call-lengths =
       by-judge s frame
       (λ x e. rw e (refl, refl))
@@ -115,7 +123,7 @@ module _ (n : Numbers) (list : List ℕ) (l : Lent) (frame reply : List ℕ) (y 
   spare-spared tab i high m a e = spare-free s tab i high a (judge-serves s frame y m a e .inside)
 
   unnamed-spared : (tab : Tab) (i : ℕ) → ¬ Names (call .result) (code (reads tab)) i → Spared tab i
-  unfolding driven drive
+  unfolding called drive
   unnamed-spared tab i free m a e r w h =
       let z : due .changed ≡ writing a = rw e (go-changed s (tablesOf l) m a) in
       free (rw z (hit-named (run-of a (tablesOf l) (judge-serves s frame y m a e .permitted)) tab i r w h))
@@ -123,7 +131,7 @@ module _ (n : Numbers) (list : List ℕ) (l : Lent) (frame reply : List ℕ) (y 
   -- ---- the numbers and the reply
 
   call-room : length (call .replyBytes) ≡ length reply
-  unfolding driven drive
+  unfolding called drive
   call-room = length-sets reply 0 (due .reply)
 
   due-fits : length (due .reply) ≤ length reply
@@ -132,7 +140,7 @@ module _ (n : Numbers) (list : List ℕ) (l : Lent) (frame reply : List ℕ) (y 
   call-laid : call
       ≡ leaving (resultOf due) (due .reply ++ drop (length (due .reply)) reply)
       (bytesBy l (judge s frame) coils) (bytesBy l (judge s frame) holdings)
-  unfolding driven drive
+  unfolding called drive
   call-laid =
       ap
       (λ b. leaving (resultOf due) b (bytesBy l (judge s frame) coils) (bytesBy l (judge s frame) holdings))
@@ -149,17 +157,17 @@ module _ (n : Numbers) (list : List ℕ) (l : Lent) (frame reply : List ℕ) (y 
 
   -- the numbers tell the range
   call-changed : rangeTold (call .result .table) (call .result .first) (call .result .count) ≡ due .changed
-  unfolding driven drive
+  unfolding called drive
   call-changed =
       by-judge s frame
       (λ x e. rw (e, stop-changed s (tablesOf l) x))
       (λ m a e. rw (e, go-changed s (tablesOf l) m a) (range-told a))
 
   call-due : showed l call ≡ due
-  unfolding driven drive
+  unfolding called drive
   call-due = λ i. record { outcome = due .outcome; exceptionCode = due .exceptionCode; reply = call-reply i; after = call-after i; changed = call-changed i }
 
-  call-refusing : 2 ≤ due .outcome → call ≡ refusing l reply (due .outcome) (due .exceptionCode) (due .reply)
+  call-refusing : 2 ≤ due .outcome → call ≡ refusing lent (due .outcome) (due .exceptionCode) (due .reply)
   unfolding drive
   call-refusing high =
       call-laid
@@ -194,13 +202,13 @@ module _ (n : Numbers) (list : List ℕ) (l : Lent) (frame reply : List ℕ) (y 
         (ap (λ x. x .outcome) z, ap (λ x. x .exceptionCode) z, ap (λ x. x .reply) z)
 
     -- and every refusal that is due is given, with not a byte beside its reply changed
-    pub refusals-on-bytes : (o c : ℕ) (r : List ℕ) → 2 ≤ o → Refusal s frame o c r ↔ (g ≡ refusing l reply o c r)
+    pub refusals-on-bytes : (o c : ℕ) (r : List ℕ) → 2 ≤ o → Refusal s frame o c r ↔ (g ≡ refusing lent o c r)
     refusals-on-bytes o c r high = (
       λ q.
           let (p, w, x) = refusal-returns s (tablesOf l) frame y q in
           e ∙ rw (p, w, x) at (call-refusing (rw p high)),
       λ q.
-          let z : due ≡ showed l (refusing l reply o c r) = sym showed-drive ∙ ap (showed l) q in
+          let z : due ≡ showed l (refusing lent o c r) = sym showed-drive ∙ ap (showed l) q in
           exactly s (tablesOf l) frame y o c r high .1
           (ap (λ x. x .outcome) z, ap (λ x. x .exceptionCode) z, ap (λ x. x .reply) z ∙ take-append-seam r _),
     )
@@ -211,8 +219,8 @@ module _ (n : Numbers) (list : List ℕ) (l : Lent) (frame reply : List ℕ) (y 
         let z = refusals-on-bytes _ _ _ high .0 (refusal-due high) in
         (ap (λ x. x .coilBytes) z, ap (λ x. x .holdingBytes) z)
 
-    pub kept-on-bytes : Kept s l frame reply g
-    unfolding driven
+    pub kept-on-bytes : Kept lent g
+    unfolding called
     kept-on-bytes =
         rw e
         (record {
@@ -230,7 +238,7 @@ module _ (n : Numbers) (list : List ℕ) (l : Lent) (frame reply : List ℕ) (y 
 
     -- what the result does not name is as lent
     pub held-on-bytes : Held l g
-    unfolding driven drive
+    unfolding called drive
     held-on-bytes =
         rw e
         (record {
@@ -241,7 +249,7 @@ module _ (n : Numbers) (list : List ℕ) (l : Lent) (frame reply : List ℕ) (y 
         })
 
     -- all of it
-    pub promised : Promised s l frame reply g
+    pub promised : Promised lent g
     promised =
         record {
           third = demand-on-bytes;

@@ -149,10 +149,10 @@ cellsAfter l a =
 module _ (s : Setup) (l : Lent) (v : Valid s) (bytes : (t : Tab) → s .bytes t ≡ length (tableOf l t)) where
   -- a valid setup has bytes for every cell that may be named
   room : (t : Tab) (n : ℕ) → n ≤ s .cells t → storage t .bytes n ≤ length (tableOf l t)
-  room coils n h = let q = v .1 .1 .0 .1 in let e = bytes coils in omega arith
-  room discretes n h = let q = v .1 .1 .1 .0 .1 in let e = bytes discretes in omega arith
-  room holdings n h = let q = v .1 .1 .1 .1 .0 .1 in let e = bytes holdings in omega arith
-  room inputs n h = let q = v .1 .1 .1 .1 .1 .1 in let e = bytes inputs in omega arith
+  room coils n h = let q = v .held coils .1 in let e = bytes coils in omega arith
+  room discretes n h = let q = v .held discretes .1 in let e = bytes discretes in omega arith
+  room holdings n h = let q = v .held holdings .1 in let e = bytes holdings in omega arith
+  room inputs n h = let q = v .held inputs .1 in let e = bytes inputs in omega arith
 
   pub ask-stored : (a : Ask) → Permitted a → Inside s a → Stored (writing a) (given a (tablesOf l)) (tablesOf l) (cellsAfter l a)
   ask-stored a p q =

@@ -11,7 +11,7 @@ use Rattle.modbus.specs.Storage.{coilAt}
 use Rattle.modbus.specs.Setup.{Setup}
 use Rattle.modbus.specs.Drive.{Result}
 use Rattle.tables.specs.Lent.{Lent, lentOf, tablesOf}
-use Rattle.driver.specs.Driven.{resulting, Leaves, leaving}
+use Rattle.driver.specs.Driven.{Call, setupOf, resulting, Leaves, leaving}
 use Rattle.demands.specs.Demand.{Request, Serves}
 use Rattle.demands.specs.Changed.{Outside}
 
@@ -37,27 +37,27 @@ showed l g =
     }
 
 -- a call that refused: its outcome and code, no cell written, its reply in front of the buffer, and every other byte as lent
-abbrev pub refusing : Lent → List ℕ → ℕ → ℕ → List ℕ → Leaves
-refusing l reply o c r =
-    leaving (resulting o c (length r) []) (r ++ drop (length r) reply) (l .coilBytes) (l .holdingBytes)
+abbrev pub refusing : Call → ℕ → ℕ → List ℕ → Leaves
+refusing l o c r =
+    leaving (resulting o c (length r) []) (r ++ drop (length r) (l .reply)) (l .tables .coilBytes) (l .tables .holdingBytes)
 
 -- no request that the frame is to be served as writes this cell
 abbrev pub Unwritten : Setup → List ℕ → Tab → ℕ → Type 0
 Unwritten s f tab i = (q : Request) → Serves s f q → Outside (writing (q .ask)) tab i
 
 -- what every call leaves
-pub record Kept (s : Setup) (l : Lent) (frame reply : List ℕ) (g : Leaves) : Type 0 where
+pub record Kept (l : Call) (g : Leaves) : Type 0 where
   -- no slice grows or shrinks
-  pub coilLength : length (g .coilBytes) ≡ length (l .coilBytes)
-  pub holdingLength : length (g .holdingBytes) ≡ length (l .holdingBytes)
-  pub replyLength : length (g .replyBytes) ≡ length reply
+  pub coilLength : length (g .coilBytes) ≡ length (l .tables .coilBytes)
+  pub holdingLength : length (g .holdingBytes) ≡ length (l .tables .holdingBytes)
+  pub replyLength : length (g .replyBytes) ≡ length (l .reply)
   -- the reply fits its buffer, and the bytes from its length on are as lent
-  pub replyFits : g .result .length ≤ length reply
-  pub replyRest : drop (g .result .length) (g .replyBytes) ≡ drop (g .result .length) reply
+  pub replyFits : g .result .length ≤ length (l .reply)
+  pub replyRest : drop (g .result .length) (g .replyBytes) ≡ drop (g .result .length) (l .reply)
   -- outside a served write every coil keeps its bit and every holding its bytes; byte b of the holdings is in register b / 2
-  pub coilsOutside : (i : ℕ) → Unwritten s frame coils i → coilAt (g .coilBytes) i ≡ coilAt (l .coilBytes) i
-  pub holdingsOutside : (b : ℕ) → Unwritten s frame holdings (b / 2) → getD (g .holdingBytes) b 0 ≡ getD (l .holdingBytes) b 0
+  pub coilsOutside : (i : ℕ) → Unwritten (setupOf l) (l .frame) coils i → coilAt (g .coilBytes) i ≡ coilAt (l .tables .coilBytes) i
+  pub holdingsOutside : (b : ℕ) → Unwritten (setupOf l) (l .frame) holdings (b / 2) → getD (g .holdingBytes) b 0 ≡ getD (l .tables .holdingBytes) b 0
   -- so all that is spare: the bits and bytes after the last coil, and the bytes after the last holding
-  pub spareBits : (i : ℕ) → l .coilCells ≤ i → coilAt (g .coilBytes) i ≡ coilAt (l .coilBytes) i
-  pub spareCoilBytes : (b : ℕ) → l .coilCells ≤ 8 * b → getD (g .coilBytes) b 0 ≡ getD (l .coilBytes) b 0
-  pub spareHoldingBytes : (b : ℕ) → 2 * l .holdingCells ≤ b → getD (g .holdingBytes) b 0 ≡ getD (l .holdingBytes) b 0
+  pub spareBits : (i : ℕ) → l .tables .coilCells ≤ i → coilAt (g .coilBytes) i ≡ coilAt (l .tables .coilBytes) i
+  pub spareCoilBytes : (b : ℕ) → l .tables .coilCells ≤ 8 * b → getD (g .coilBytes) b 0 ≡ getD (l .tables .coilBytes) b 0
+  pub spareHoldingBytes : (b : ℕ) → 2 * l .tables .holdingCells ≤ b → getD (g .holdingBytes) b 0 ≡ getD (l .tables .holdingBytes) b 0

@@ -5,8 +5,8 @@ use mathlib.Core.List.{List, [], _∷_}
 use Prim.Native.Nat.{ℕ}
 use lib.ListN.{take, replicate}
 use Rattle.modbus.specs.Setup.{Setup}
-use Rattle.tables.specs.Lent.{Lent, lentOf, cellsOf, bytesOf}
-use Rattle.driver.specs.Driven.{Leaves, driven}
+use Rattle.tables.specs.Lent.{Lent, lentOf}
+use Rattle.driver.specs.Driven.{Call, setupOf, Leaves, called}
 
 pub record Station : Type 0 where
   pub unit : ℕ
@@ -14,17 +14,28 @@ pub record Station : Type 0 where
   pub list : List ℕ
   pub lent : Lent
 
-abbrev pub setupAt : Station → ℕ → Setup
-setupAt s transport =
+-- a frame to it on a transport
+abbrev pub callTo : Station → ℕ → List ℕ → Call
+callTo s transport f =
     record {
-      transport = transport;
-      unit = s .unit;
-      hex = s .hex;
-      broadcasts = s .list;
-      cells = cellsOf (s .lent);
-      bytes = bytesOf (s .lent);
-      room = 511;
+      numbers =
+          record {
+            transport = transport;
+            unit = s .unit;
+            hex = s .hex;
+            «coil_cells» = s .lent .coilCells;
+            «discrete_cells» = s .lent .discreteCells;
+            «holding_cells» = s .lent .holdingCells;
+            «input_cells» = s .lent .inputCells;
+          };
+      list = s .list;
+      tables = s .lent;
+      frame = f;
+      reply = replicate 511 0;
     }
+
+abbrev pub setupAt : Station → ℕ → Setup
+setupAt s transport = setupOf (callTo s transport [])
 
 -- document 01's: unit 1, list [0]; 16 coils in these bytes; holdings 0102 0304 0000 FFFF; no discretes and no inputs; under a switch
 abbrev pub benchUnder : ℕ → List ℕ → Station
@@ -75,7 +86,7 @@ pub record Exchange : Type 0 where
 
 -- the same as the definitions give it
 abbrev pub leaves : Exchange → Leaves
-leaves e = driven (setupAt (e .station) (e .transport)) (e .station .lent) (e .frame) (replicate 511 0)
+leaves e = called (callTo (e .station) (e .transport) (e .frame))
 
 abbrev pub exchanged : Exchange → Exchange
 exchanged e =

@@ -9,10 +9,10 @@ use lib.ListN.{length, take, drop, length-take, length-drop}
 use Rattle.modbus.specs.Frame.{startOf}
 use Rattle.modbus.specs.Paper.{protoOf}
 use Rattle.modbus.specs.Setup.{Valid, roomFor}
-use Rattle.modbus.specs.Table.{coils, discretes, holdings, inputs}
+use Rattle.modbus.specs.Table.{coils, discretes, holdings, inputs, every}
 use Rattle.driver.specs.declared.Setup.{Setup as Numbers}
-use Rattle.driver.specs.Driven.{lentIn, setupOf}
-use Rattle.driver.specs.Serving.{Sized, Good}
+use Rattle.driver.specs.Driven.{lending, setupOf}
+use Rattle.driver.specs.Serving.{Good}
 
 never : {P : Type 0} → true ≡ false → P
 never e = let z : _≡_ {A = ℕ} 0 1 = cc in absurd (omega arith)
@@ -47,17 +47,16 @@ pub part-same : (start n k : ℕ) (s s' : List ℕ) → start ≡ k → s ≡ s'
 part-same start n k s s' e f = let z : (start + n) - start ≡ n = omega arith in rw (z, e, f)
 
 -- the setup that the definitions speak of
-module _ (n : Numbers) (list c d h i reply : List ℕ) where
-  pub good-valid : Good n (length c) (length d) (length h) (length i) → Valid (setupOf n list (lentIn n c d h i) reply)
-  good-valid (t, x, f, l) = (t, (x, ((f .0, l .0), ((f .1, l .1), ((f .2, l .2), (f .3, l .3))))))
+module _ (n : Numbers) (list c d h i f reply : List ℕ) where
+  pub good-valid : Good n (length c) (length d) (length h) (length i) → Valid (setupOf (lending n list c d h i f reply))
+  good-valid (t, x, f, l) =
+      record { transport = t; hex = x; held = every _ ((f .0, l .0), ((f .1, l .1), ((f .2, l .2), (f .3, l .3)))) }
 
-  pub valid-good : Valid (setupOf n list (lentIn n c d h i) reply) → Good n (length c) (length d) (length h) (length i)
+  pub valid-good : Valid (setupOf (lending n list c d h i f reply)) → Good n (length c) (length d) (length h) (length i)
   valid-good v =
-      let t = v .1 .1 in
-      (v .0, v .1 .0, (t .0 .0, t .1 .0 .0, t .1 .1 .0 .0, t .1 .1 .1 .0), (t .0 .1, t .1 .0 .1, t .1 .1 .0 .1, t .1 .1 .1 .1))
-
-  pub valid-sized : Valid (setupOf n list (lentIn n c d h i) reply) → Sized (lentIn n c d h i)
-  valid-sized v coils = v .1 .1 .0
-  valid-sized v discretes = v .1 .1 .1 .0
-  valid-sized v holdings = v .1 .1 .1 .1 .0
-  valid-sized v inputs = v .1 .1 .1 .1 .1
+      let t = v .held in (
+        v .transport,
+        v .hex,
+        (t coils .0, t discretes .0, t holdings .0, t inputs .0),
+        (t coils .1, t discretes .1, t holdings .1, t inputs .1),
+      )

@@ -8,22 +8,22 @@ use Prim.Native.Nat.{ℕ, _+_, _*_, _≤_, _<_}
 use native.Mathlib.Omega.{arith}
 use lib.ListN.{length, take, drop, getD, length-take, length-drop}
 use lib.Seq.{sets, take-length}
-use Rattle.modbus.specs.Step.{Step, stop, go, choose, _≟_, _or?_}
+use Rattle.modbus.specs.Step.{stop, go, choose, _≟_, _or?_}
 use Rattle.modbus.specs.Table.{Kind, bit, word, Tab, coils, discretes, holdings, inputs, kindOf, target, part}
-use Rattle.modbus.specs.Request.{Fn, reads, mask, code, tabOf, Ask, read, write, writes, masks, swaps, octets, shown, writing, answer, seen, found, apply}
+use Rattle.modbus.specs.Request.{reads, mask, code, tabOf, Ask, read, write, writes, masks, swaps, octets, shown, writing, answer, seen, found, apply}
 use Rattle.modbus.specs.Setup.{Setup, proto}
 use Rattle.modbus.specs.Unit.{listed?, Broadcast, broadcast?, Ours}
-use Rattle.modbus.specs.Decode.{Message, foreign, readIgnored, wrongLength, badFunction, outcomeOf, IsRead, asked}
-use Rattle.modbus.specs.Drive.{Fault, quiet, coded, Result, fromUnit, settle}
-use Rattle.modbus.proofs.StepLaws.{pass, fail, follow, halt, bound-stop, needed-stop, pick-yes, pick-no, picked}
-use Rattle.modbus.proofs.FindLaws.{code-low, find-fn, found-fn, found-none, found-fault, find-none}
+use Rattle.modbus.specs.Decode.{Message, foreign, outcomeOf, asked}
+use Rattle.modbus.specs.Drive.{Fault, quiet, coded, Result, weigh, fromUnit, settle}
+use Rattle.modbus.proofs.StepLaws.{pass, fail, follow, halt, pick-yes, pick-no, picked}
+use Rattle.modbus.proofs.WeighLaws.{Alike, weigh-alike, by-alike}
 use Rattle.modbus.proofs.BytesLaws.{bytes-by}
 use Rattle.modbus.proofs.RequestLaws.{asked-says}
 use Rattle.modbus.proofs.StorageLaws.{length-part}
 use Rattle.modbus.proofs.AnswerLaws.{length-shown}
 use Rattle.modbus.specs.Storage.{registers, registerAt, Sound, storage, store, values}
 use Rattle.tables.specs.Lent.{Lent, tableOf, tablesOf}
-use Rattle.requests.specs.Judged.{On, on?, refusedBy, ignored, weighed, kept, keptBy, judged}
+use Rattle.requests.specs.Judged.{On, on?, refusedBy, weighed, kept, keptBy, judged}
 use Rattle.requests.specs.declared.ReadCells.{ReadCells}
 use Rattle.requests.specs.declared.Cells.{Cells}
 use Rattle.requests.specs.declared.Mask.{Mask}
@@ -32,9 +32,8 @@ use Rattle.requests.specs.declared.Write.the-variants.{Bits, Words}
 use Rattle.requests.specs.declared.Verdict.{Verdict}
 use Rattle.requests.specs.declared.Verdict.the-variants.{Read, Written, Masked, Exchanged, Refused, Quiet}
 use Rattle.requests.proofs.JudgedLaws.{on, off, tab-of}
-use Rattle.requests.proofs.FineLaws.{went, FineRead, FineWrite, FineMask, FineBoth, Fine, fine}
-use Rattle.driver.specs.declared.Setup.{Setup as Numbers}
-use Rattle.driver.specs.Driven.{setupOf, bytesAfter, resultOf, Leaves, leaving, settled}
+use Rattle.requests.proofs.FineLaws.{FineRead, FineWrite, FineMask, FineBoth, Fine, fine}
+use Rattle.driver.specs.Driven.{Call, setupOf, bytesAfter, resultOf, Leaves, leaving, settled}
 use Rattle.driver.specs.Serving.{Sized, ReadReady, Ready, readBody, dataOf, maskedBy, swappedBy, echoed, doneBy, Telling, tells, telling, Turn, turn, serving}
 use Rattle.driver.proofs.ReadLaws.{octets-most}
 use Rattle.driver.proofs.StoreLaws.{stored-target, stored-other, found-after, echoes, mask-echoes}
@@ -48,8 +47,8 @@ read-range discretes = omega arith
 read-range holdings = omega arith
 read-range inputs = omega arith
 
-module _ (n : Numbers) (list : List ℕ) (l : Lent) (reply : List ℕ) (x : Bool) (b : List ℕ) where
-  pub ready : (v : Verdict) → Fine (setupOf n list l reply) x b v → 2 ≤ length b → Ready l b v
+module _ (lent : Call) (x : Bool) (b : List ℕ) where
+  pub ready : (v : Verdict) → Fine (setupOf lent) x b v → 2 ≤ length b → Ready (lent .tables) b v
   ready (Read q) f h =
       let e : tabOf (q .function) ≡ f .tab = ap tabOf (f .function) ∙ tab-of (f .tab) in
       let r = read-range (f .tab) in
@@ -88,25 +87,31 @@ brief l x b (Quiet o c) r = omega arith
 abbrev Addressed : Setup → ℕ → Bool → Type 0
 Addressed s u x = (Broadcast s u × (x ≡ true)) ⊎ ((¬ Broadcast s u) × Ours s u × (x ≡ false))
 
-module _ (n : Numbers) (list : List ℕ) (l : Lent) (reply : List ℕ) (to : ℕ) (x : Bool) (e : x ≡ choose (listed? to list) true false) where
-  meant-not : ¬ (On x ⊎ (to ≡ n .unit)) → ¬ (Broadcast (setupOf n list l reply) to ⊎ Ours (setupOf n list l reply) to)
+module _ (lent : Call) (to : ℕ) (x : Bool) (e : x ≡ choose (listed? to (lent .list)) true false) where
+  meant-not : ¬ (On x ⊎ (to ≡ lent .numbers .unit)) → ¬ (Broadcast (setupOf lent) to ⊎ Ours (setupOf lent) to)
   unfolding Broadcast Ours
   meant-not k (inl p) = k (inl (on x (e ∙ pick-yes _ _ _ p)))
   meant-not k (inr p) = k (inr p)
 
-  meant : On x ⊎ (to ≡ n .unit) → Addressed (setupOf n list l reply) to x
+  meant : On x ⊎ (to ≡ lent .numbers .unit) → Addressed (setupOf lent) to x
   unfolding Broadcast Ours
   meant m = picked _ _ _ (sym e) (λ p q. inl (p, sym q)) (λ k q. inr (k, own m (sym q), sym q))
     where
-      own : On x ⊎ (to ≡ n .unit) → x ≡ false → to ≡ n .unit
+      own : On x ⊎ (to ≡ lent .numbers .unit) → x ≡ false → to ≡ lent .numbers .unit
       own (inl o) q = absurd (off x q o)
       own (inr p) q = p
 
 -- ---- the definition from the unit on
 
-module _ (n : Numbers) (list : List ℕ) (l : Lent) (reply tag b : List ℕ) where
+module _ (lent : Call) (tag b : List ℕ) where
   abbrev set : Setup
-  set = setupOf n list l reply
+  set = setupOf lent
+
+  abbrev l : Lent
+  l = lent .tables
+
+  abbrev reply : List ℕ
+  reply = lent .reply
 
   abbrev message : Message
   message = record { tag = tag; body = b }
@@ -121,9 +126,9 @@ module _ (n : Numbers) (list : List ℕ) (l : Lent) (reply tag b : List ℕ) whe
   kept-leaving r = leaving (resultOf r) (sets reply 0 (r .reply)) (l .coilBytes) (l .holdingBytes)
 
   unmeant : (x : Bool) → ¬ (Broadcast set (getD b 0 0) ⊎ Ours set (getD b 0 0))
-      → settled set l reply (fromUnit set message) ≡ doing x (Quiet 4 0)
+      → settled lent (fromUnit set message) ≡ doing x (Quiet 4 0)
   unfolding settle
-  unmeant x k = ap (settled set l reply) (fail _ _ _ k)
+  unmeant x k = ap (settled lent) (fail _ _ _ k)
 
   -- what is served
 
@@ -140,13 +145,13 @@ module _ (n : Numbers) (list : List ℕ) (l : Lent) (reply tag b : List ℕ) whe
   abbrev leaving-after : Ask → Result → Leaves
   leaving-after a r = leaving (resultOf r) (sets reply 0 (r .reply)) (bytesAfter l a coils) (bytesAfter l a holdings)
 
-  go-done : (x : Bool) (a : Ask) → Addressed set (getD b 0 0) x → settled set l reply (go (message, a)) ≡ done (told x a) (served x a)
+  go-done : (x : Bool) (a : Ask) → Addressed set (getD b 0 0) x → settled lent (go (message, a)) ≡ done (told x a) (served x a)
   unfolding settle
   go-done x a (inl (p, e)) = rw e (ap (leaving-after a) (pick-yes _ _ _ p))
   go-done x a (inr (p, q, e)) = rw e (ap (leaving-after a) (pick-no _ _ _ p))
 
   -- a fault with a code
-  coded-done : (x : Bool) (c : ℕ) → Addressed set (getD b 0 0) x → settled set l reply (stop (coded message c)) ≡ doing x (refusedBy x c)
+  coded-done : (x : Bool) (c : ℕ) → Addressed set (getD b 0 0) x → settled lent (stop (coded message c)) ≡ doing x (refusedBy x c)
   unfolding settle
   coded-done x c (inl (p, e)) = rw e (ap kept-leaving (pick-yes _ _ _ p))
   coded-done x c (inr (p, q, e)) = rw e (ap kept-leaving (pick-no _ _ _ p))
@@ -161,46 +166,11 @@ module _ (n : Numbers) (list : List ℕ) (l : Lent) (reply tag b : List ℕ) whe
     is-broadcast : On x → Broadcast set (getD b 0 0)
     is-broadcast h = ⊎-elim (λ p. p .0) (λ p. absurd (off x (p .2) h)) to
 
-    heeded : (fn : Fn) → ¬ (On x × IsRead fn) → ¬ (Broadcast set (getD b 0 0) × IsRead fn)
-    heeded fn o h = o (is-on (h .0), h .1)
-
-    stops : {v : Verdict} (f : Fault) (w : Verdict) → settled set l reply (stop f) ≡ doing x w → fromUnit set message ≡ stop f → w ≡ v
-        → settled set l reply (fromUnit set message) ≡ doing x v
-    stops f w d e q = ap (settled set l reply) e ∙ d ∙ ap (doing x) q
-
-    unit-stop : {v : Verdict} → weighed set x b ≡ stop v → settled set l reply (fromUnit set message) ≡ doing x v
-    unfolding weighed settle
-    unit-stop {v} e =
-        needed-stop _ _ _ e (λ k q. stops (quiet badFunction) _ refl (pass _ _ _ heard ∙ fail _ _ _ k) q)
-        λ p e₁. bound-stop _ _ e₁
-        (λ q.
-        let none = found-none code _ _ _ (λ fn z. find-fn _ _ (proto set) fn z) q in
-        stops (coded message 1) (refusedBy x 1) (coded-done x 1 to) (pass _ _ _ heard ∙ pass _ _ _ p ∙ halt _ _ (find-none code _ _ none _))
-        (found-fault code _ _ _ q))
-        λ fn q e₂.
-        let f = pass _ _ _ heard ∙ pass _ _ _ p ∙ follow _ _ (find-fn _ _ (proto set) fn (found-fn code _ _ _ fn q)) in
-        needed-stop _ _ _ e₂
-        (λ k r. stops (quiet readIgnored) ignored refl (f ∙ fail _ _ _ (λ h. k (λ g. h (is-broadcast (g .0), g .1)))) r)
-        λ o e₃. needed-stop _ _ _ e₃
-        (λ k r. stops (quiet wrongLength) _ refl (f ∙ pass _ _ _ (heeded fn o) ∙ fail _ _ _ k) r)
-        λ y e₄. needed-stop _ _ _ e₄
-        (λ k r. stops (coded message 3) (refusedBy x 3) (coded-done x 3 to) (f ∙ pass _ _ _ (heeded fn o) ∙ pass _ _ _ y ∙ fail _ _ _ k) r)
-        λ w e₅. needed-stop _ _ _ e₅
-        (λ k r.
-        stops (coded message 2) (refusedBy x 2) (coded-done x 2 to) (f ∙ pass _ _ _ (heeded fn o) ∙ pass _ _ _ y ∙ pass _ _ _ w ∙ fail _ _ _ k) r)
-        λ i e₆. let z : _≡_ {A = ℕ} 0 1 = cc in absurd (omega arith)
-
-    unit-go : {a : Ask} → weighed set x b ≡ go a → fromUnit set message ≡ go (message, a)
-    unit-go {a} e =
-        went set x b e λ fn p o y w i z.
-        pass _ _ _ heard
-        ∙ pass _ _ _ (omega (arith, code-low fn))
-        ∙ follow _ _ (find-fn _ _ (proto set) fn p)
-        ∙ pass _ _ _ (heeded fn o)
-        ∙ pass _ _ _ y
-        ∙ pass _ _ _ w
-        ∙ pass _ _ _ (rw z i)
-        ∙ ap (λ (a : Ask). go (message, a)) z
+    -- the same faults in the same order: of the message, and of its body as a verdict
+    alike : Alike (λ (f : Fault) (v : Verdict). settled lent (stop f) ≡ doing x v)
+        (weigh quiet (coded message) set (broadcast? set (getD b 0 0)) b) (weighed set x b)
+    unfolding settle
+    alike = weigh-alike _ _ _ _ _ set _ _ b is-on is-broadcast (λ o. refl) (λ c. coded-done x c to)
 
   -- ---- by what the verdict promises
 
@@ -295,29 +265,30 @@ module _ (n : Numbers) (list : List ℕ) (l : Lent) (reply tag b : List ℕ) whe
   serves bytes sized x (Quiet o c) f a e = let z : _≡_ {A = ℕ} 0 1 = cc in absurd (omega arith)
 
   -- what was judged of a body, by whom its unit number means
-  module _ (bytes : (i : ℕ) → getD b i 0 < 256) (sized : Sized l) (x : Bool) (listed : x ≡ choose (listed? (getD b 0 0) list) true false) (v : Verdict)
-      (judges : v ≡ choose (on? x or? (getD b 0 0 ≟ n .unit)) (judged set x b) (Quiet 4 0)) where
-    settles-to : Addressed set (getD b 0 0) x → (w : Step Verdict Ask) → weighed set x b ≡ w
-        → settled set l reply (fromUnit set message) ≡ doing x (keptBy w)
+  module _ (bytes : (i : ℕ) → getD b i 0 < 256) (sized : Sized l) (x : Bool) (listed : x ≡ choose (listed? (getD b 0 0) (lent .list)) true false) (v : Verdict)
+      (judges : v ≡ choose (on? x or? (getD b 0 0 ≟ lent .numbers .unit)) (judged set x b) (Quiet 4 0)) where
+    settles-to : Addressed set (getD b 0 0) x → settled lent (fromUnit set message) ≡ doing x (judged set x b)
     unfolding judged
-    settles-to to (stop u) e = unit-stop x to e
-    settles-to to (go a) e =
-        let f : Fine set x b (kept a) = fine set x b bytes {r = judged set x b} refl (ap keptBy e) in
-        ap (settled set l reply) (unit-go x to e) ∙ go-done x a to ∙ ap₂ done (tells-kept x a f) (serves bytes sized x (kept a) f a e)
+    settles-to to =
+        by-alike _ _ _ (alike x to)
+        (λ f u p q r. ap (settled lent) (pass _ _ _ (heard x to) ∙ halt _ _ p) ∙ r ∙ ap (λ w. doing x (keptBy w)) (sym q))
+        (λ a p q.
+        let f : Fine set x b (kept a) = fine set x b bytes {r = judged set x b} refl (ap keptBy q) in
+        ap (settled lent) (pass _ _ _ (heard x to) ∙ follow _ _ p) ∙ go-done x a to ∙ ap₂ done (tells-kept x a f) (serves bytes sized x (kept a) f a q)
+        ∙ ap (λ w. doing x (keptBy w)) (sym q))
 
-    pub settles : doing x v ≡ settled set l reply (fromUnit set message)
-    unfolding judged
+    pub settles : doing x v ≡ settled lent (fromUnit set message)
     settles =
-        by-cases (on? x or? (getD b 0 0 ≟ n .unit))
+        by-cases (on? x or? (getD b 0 0 ≟ lent .numbers .unit))
         (λ h.
         ap (doing x) (judges ∙ pick-yes _ _ _ h)
-        ∙ sym (settles-to (meant n list l reply (getD b 0 0) x listed h) (weighed set x b) refl))
+        ∙ sym (settles-to (meant lent (getD b 0 0) x listed h)))
         (λ k.
         ap (doing x) (judges ∙ pick-no _ _ _ k)
-        ∙ sym (unmeant x (meant-not n list l reply (getD b 0 0) x listed k)))
+        ∙ sym (unmeant x (meant-not lent (getD b 0 0) x listed k)))
 
     pub judged-ready : 2 ≤ length b → Ready l b v
     judged-ready h =
-        by-cases (on? x or? (getD b 0 0 ≟ n .unit))
-        (λ m. ready n list l reply x b v (fine set x b bytes {r = v} (judges ∙ pick-yes _ _ _ m) refl) h)
+        by-cases (on? x or? (getD b 0 0 ≟ lent .numbers .unit))
+        (λ m. ready lent x b v (fine set x b bytes {r = v} (judges ∙ pick-yes _ _ _ m) refl) h)
         (λ k. subst (Ready l b) (sym (judges ∙ pick-no _ _ _ k)) tt)

@@ -20,17 +20,33 @@ use Rattle.driver.specs.declared.Driven.{Driven}
 abbrev pub lentIn : Numbers → List ℕ → List ℕ → List ℕ → List ℕ → Lent
 lentIn n c d h i = lentOf c (n .«coil_cells») d (n .«discrete_cells») h (n .«holding_cells») i (n .«input_cells»)
 
--- the setup: its numbers, the list of broadcast numbers, the lent tables and the room for the reply
-abbrev pub setupOf : Numbers → List ℕ → Lent → List ℕ → Setup
-setupOf n list l reply =
+-- what a call is lent: the setup's numbers, the list of broadcast numbers, the tables, the frame, the reply buffer
+pub record Call : Type 0 where
+  pub numbers : Numbers
+  pub list : List ℕ
+  pub tables : Lent
+  pub frame : List ℕ
+  pub reply : List ℕ
+
+-- from the parameters in their order: the numbers, the list, the bytes of coils, discretes, holdings and inputs, the frame, the reply buffer
+abbrev pub lending : Numbers → List ℕ → List ℕ → List ℕ → List ℕ → List ℕ → List ℕ → List ℕ → Call
+lending n list c d h i frame reply = record { numbers = n; list = list; tables = lentIn n c d h i; frame = frame; reply = reply }
+
+-- the same with this frame
+abbrev pub framing : Call → List ℕ → Call
+framing l f = record { numbers = l .numbers; list = l .list; tables = l .tables; frame = f; reply = l .reply }
+
+-- the setup: its numbers, the list, the sizes of the tables and the room for the reply
+abbrev pub setupOf : Call → Setup
+setupOf l =
     record {
-      transport = n .transport;
-      unit = n .unit;
-      hex = n .hex;
-      broadcasts = list;
-      cells = cellsOf l;
-      bytes = bytesOf l;
-      room = length reply;
+      transport = l .numbers .transport;
+      unit = l .numbers .unit;
+      hex = l .numbers .hex;
+      broadcasts = l .list;
+      cells = cellsOf (l .tables);
+      bytes = bytesOf (l .tables);
+      room = length (l .reply);
     }
 
 -- a table's bytes after a request: the cells that it writes there take its values, as the table keeps them
@@ -67,14 +83,11 @@ pub record Leaves : Type 0 where
 abbrev pub leaving : Driven → List ℕ → List ℕ → List ℕ → Leaves
 leaving r o c h = record { result = r; replyBytes = o; coilBytes = c; holdingBytes = h }
 
-abbrev pub settled : Setup → Lent → List ℕ → Step Fault (Message × Ask) → Leaves
-settled s l reply j =
-    let r = settle s (tablesOf l) j in
-    leaving (resultOf r) (sets reply 0 (r .reply)) (bytesBy l j coils) (bytesBy l j holdings)
+abbrev pub settled : Call → Step Fault (Message × Ask) → Leaves
+settled l j =
+    let r = settle (setupOf l) (tablesOf (l .tables)) j in
+    leaving (resultOf r) (sets (l .reply) 0 (r .reply)) (bytesBy (l .tables) j coils) (bytesBy (l .tables) j holdings)
 
-unfoldable pub driven : Setup → Lent → List ℕ → List ℕ → Leaves
-driven s l frame reply = settled s l reply (judge s frame)
-
--- the call: the setup's numbers, the list of broadcast numbers, the tables, the frame, the reply buffer
-abbrev pub called : Numbers → List ℕ → Lent → List ℕ → List ℕ → Leaves
-called n list l frame reply = driven (setupOf n list l reply) l frame reply
+-- what a call leaves of what it is lent
+unfoldable pub called : Call → Leaves
+called l = settled l (judge (setupOf l) (l .frame))

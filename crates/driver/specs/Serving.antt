@@ -24,7 +24,7 @@ use Rattle.requests.specs.declared.Verdict.{Verdict}
 use Rattle.requests.specs.declared.Verdict.the-variants.{Read, Written, Masked, Exchanged, Refused, Quiet}
 use Rattle.driver.specs.declared.Setup.{Setup as Numbers}
 use Rattle.driver.specs.declared.Driven.{Driven}
-use Rattle.driver.specs.Driven.{setupOf, making, resulting, Leaves, settled}
+use Rattle.driver.specs.Driven.{Call, setupOf, making, resulting, Leaves, settled}
 
 -- a setup with these numbers of cells
 abbrev pub Counted : Setup → Numbers → Type 0
@@ -198,7 +198,5 @@ abbrev pub Good : Numbers → ℕ → ℕ → ℕ → ℕ → Type 0
 Good n c d h i = (n .transport ≤ 2) × (n .hex ≤ 1) × Few n × Long n c d h i
 
 -- a call whose frame is taken apart to this body
-abbrev pub handled : Numbers → List ℕ → List ℕ → List ℕ → Lent → List ℕ → Leaves
-handled n list tag b l reply =
-    let s = setupOf n list l reply in
-    settled s l reply (fromUnit s (record { tag = tag; body = b }))
+abbrev pub handled : Call → List ℕ → List ℕ → Leaves
+handled l tag b = settled l (fromUnit (setupOf l) (record { tag = tag; body = b }))

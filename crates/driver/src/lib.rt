@@ -22,7 +22,7 @@ ghost use lib.ListN.{length, getD};
 ghost use Rattle.modbus.specs.Paper.{protoOf};
 ghost use Rattle.modbus.specs.Frame.{tagOf, startOf};
 ghost use Rattle.modbus.specs.Setup.{roomFor};
-ghost use Rattle.driver.specs.Driven.{lentIn, leaving, called};
+ghost use Rattle.driver.specs.Driven.{lentIn, lending, leaving, called};
 ghost use Rattle.driver.specs.Serving.{Sized, handled};
 
 // The setup's numbers: the transport (0 RTU, 1 ASCII, 2 TCP), our unit number on it, the switch for digits a-f of ASCII frames (0 strict, 1
@@ -66,9 +66,9 @@ fn handle(
 ) -> Driven
     requires { ⌜ (2 ≤ length (now body)) × (start ≡ startOf (protoOf (setup .transport))) × (roomFor (protoOf (setup .transport)) ≤ length (now reply)) × (2 ≤ length (now frame)) ⌝ }
     requires { ⌜ Sized (lentIn setup (now coils) (now discretes) (now holdings) (now inputs)) ⌝ }
-    ensures { λ r. ⌜ leaving r (now (reply .exit)) (now (coils .exit)) (now (holdings .exit)) ≡ handled setup (now (list .entry))
-        (tagOf (protoOf (setup .transport)) (getD (now (frame .entry)) 0 0) (getD (now (frame .entry)) 1 0)) (now (body .entry))
-        (lentIn setup (now (coils .entry)) (now (discretes .entry)) (now (holdings .entry)) (now (inputs .entry))) (now (reply .entry)) ⌝ }
+    ensures { λ r. ⌜ leaving r (now (reply .exit)) (now (coils .exit)) (now (holdings .exit)) ≡ handled (lending setup (now (list .entry))
+        (now (coils .entry)) (now (discretes .entry)) (now (holdings .entry)) (now (inputs .entry)) (now (frame .entry)) (now (reply .entry)))
+        (tagOf (protoOf (setup .transport)) (getD (now (frame .entry)) 0 0) (getD (now (frame .entry)) 1 0)) (now (body .entry)) ⌝ }
 {
     let broadcast = listed(list, body[0]);
     let verdict = judge(setup, broadcast, body);
@@ -99,9 +99,8 @@ pub fn drive(
     frame: &[u8],
     reply: &mut [u8],
 ) -> Driven
-    ensures { λ r. ⌜ leaving r (now (reply .exit)) (now (coils .exit)) (now (holdings .exit)) ≡ called setup (now (list .entry))
-        (lentIn setup (now (coils .entry)) (now (discretes .entry)) (now (holdings .entry)) (now (inputs .entry)))
-        (now (frame .entry)) (now (reply .entry)) ⌝ }
+    ensures { λ r. ⌜ leaving r (now (reply .exit)) (now (coils .exit)) (now (holdings .exit)) ≡ called (lending setup (now (list .entry))
+        (now (coils .entry)) (now (discretes .entry)) (now (holdings .entry)) (now (inputs .entry)) (now (frame .entry)) (now (reply .entry))) ⌝ }
 {
     if bad_setup(
         setup,

@@ -15,6 +15,7 @@ pub mod AnswerLaws
 pub mod FrameLaws
 pub mod FindLaws
 pub mod DriveLaws
+pub mod WeighLaws
 pub mod Cases
 pub mod Bounds
 pub mod Boundaries

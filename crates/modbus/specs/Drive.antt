@@ -3,9 +3,10 @@
 -- Assumes nothing.
 use mathlib.Core.List.{List, [], _∷_, _++_}
 use Prim.Native.Nat.{ℕ, _+_}
+use lib.ListN.{getD}
 use Rattle.modbus.specs.Step.{Step, stop, go, _>>=_, _>>_, need, choose, _≤?_, _≟_, _and?_, _or?_, not?}
 use Rattle.modbus.specs.Table.{Range, Tables}
-use Rattle.modbus.specs.Request.{Fn, code, offered, Ask, reading, writing, apply, seen, found, answer, exception}
+use Rattle.modbus.specs.Request.{code, offered, Ask, reading, writing, apply, seen, found, answer, exception}
 use Rattle.modbus.specs.Frame.{wrap}
 use Rattle.modbus.specs.Setup.{Setup, proto, valid?, roomy?, Within, within?}
 use Rattle.modbus.specs.Unit.{broadcast?, ours?}
@@ -43,22 +44,24 @@ inside? s a = allWithin? s (reading a ++ writing a)
 -- ---- document 01's order: BadSetup, NoRoom, FrameBroken, FrameCheck, Foreign, BadFunction, unsupported function (code 1), broadcast read,
 -- WrongLength, value (code 3), address (code 2)
 
--- once the function is known
-abbrev pub fromFunction : Setup → Message → Fn → Step Fault (Message × Ask)
-fromFunction s m fn = do
-  need (lengthy? fn (m .body)) (quiet wrongLength)
-  need (valued? fn (m .body)) (coded m 3)
-  need (inside? s (asked fn (m .body))) (coded m 2)
-  go (m, asked fn (m .body))
+-- from the function on: what a body asks, or its first fault. What a fault without a code and one with a code become is the caller's, and so is
+-- whether the body went to a broadcast number
+unfoldable pub weigh : {F P : Type 0} → (Silent → F) → (ℕ → F) → Setup → Dec P → List ℕ → Step F Ask
+weigh silent refused s broadcast b = do
+  need (getD b 1 0 ≤? 127) (silent badFunction)
+  fn ← find code (refused 1) (getD b 1 0) (offered (proto s))
+  need (not? (broadcast and? isRead? fn)) (silent readIgnored)
+  need (lengthy? fn b) (silent wrongLength)
+  need (valued? fn b) (refused 3)
+  need (inside? s (asked fn b)) (refused 2)
+  go (asked fn b)
 
 -- once the frame is taken apart
 abbrev pub fromUnit : Setup → Message → Step Fault (Message × Ask)
 fromUnit s m = do
   need (broadcast? s (unitOf m) or? ours? s (unitOf m)) (quiet foreign)
-  need (numberOf m ≤? 127) (quiet badFunction)
-  fn ← find code (coded m 1) (numberOf m) (offered (proto s))
-  need (not? (broadcast? s (unitOf m) and? isRead? fn)) (quiet readIgnored)
-  fromFunction s m fn
+  a ← weigh quiet (coded m) s (broadcast? s (unitOf m)) (m .body)
+  go (m, a)
 
 -- the frame as the setup's switch has it read
 abbrev pub spelled : Setup → List ℕ → List ℕ

@@ -3,9 +3,9 @@
 -- Assumes nothing.
 use mathlib.Core.List.{List}
 use Prim.Native.Nat.{ℕ, _+_, _≤_}
-use Rattle.modbus.specs.Step.{_≤?_, _and?_}
+use Rattle.modbus.specs.Step.{_≤?_, _and?_, same-as?}
 use Rattle.modbus.specs.Paper.{protoOf}
-use Rattle.modbus.specs.Table.{Tab, coils, discretes, holdings, inputs, kindOf, Sizes, Range}
+use Rattle.modbus.specs.Table.{Tab, kindOf, every?, Sizes, Range}
 use Rattle.modbus.specs.Request.{octets}
 use Rattle.modbus.specs.declared.ModbusProto.{ModbusProto}
 use Rattle.modbus.specs.declared.ModbusProto.the-variants.{Rtu, Ascii, TcpUdp}
@@ -30,11 +30,16 @@ Held s tab = (s .cells tab ≤ 65536) × (octets (kindOf tab) (s .cells tab) ≤
 abbrev pub held? : (s : Setup) (tab : Tab) → Dec (Held s tab)
 held? s tab = (s .cells tab ≤? 65536) and? (octets (kindOf tab) (s .cells tab) ≤? s .bytes tab)
 
-abbrev pub Valid : Setup → Type 0
-Valid s = (s .transport ≤ 2) × ((s .hex ≤ 1) × (Held s coils × (Held s discretes × (Held s holdings × Held s inputs))))
+pub record Valid (s : Setup) : Type 0 where
+  pub transport : s .transport ≤ 2
+  pub hex : s .hex ≤ 1
+  pub held : (tab : Tab) → Held s tab
 
 unfoldable pub valid? : (s : Setup) → Dec (Valid s)
-valid? s = (s .transport ≤? 2) and? (s .hex ≤? 1) and? held? s coils and? held? s discretes and? held? s holdings and? held? s inputs
+valid? s =
+    same-as? ((s .transport ≤? 2) and? (s .hex ≤? 1) and? every? (Held s) (held? s))
+    (λ h. record { transport = h .0; hex = h .1 .0; held = h .1 .1 })
+    (λ v. (v .transport, (v .hex, v .held)))
 
 -- ---- NoRoom: reply buffer under 260 bytes (RTU, TCP) or 511 (ASCII)
 

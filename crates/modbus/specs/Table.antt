@@ -5,7 +5,7 @@ use mathlib.Core.Path.{_≡_}
 use mathlib.Core.List.{List, [], _∷_}
 use Prim.Native.Nat.{ℕ, zero, suc, _+_, _-_, _≤_, _<_}
 use lib.ListN.{getD}
-use Rattle.modbus.specs.Step.{choose, _≤?_, _and?_}
+use Rattle.modbus.specs.Step.{choose, _≤?_, _and?_, same-as?}
 
 pub data Kind : Type 0 where
   bit word : Kind
@@ -19,6 +19,16 @@ kindOf coils = bit
 kindOf discretes = bit
 kindOf holdings = word
 kindOf inputs = word
+
+-- what holds of each table holds of all
+abbrev pub every : (P : Tab → Type 0) → P coils × (P discretes × (P holdings × P inputs)) → (tab : Tab) → P tab
+every P h coils = h .0
+every P h discretes = h .1 .0
+every P h holdings = h .1 .1 .0
+every P h inputs = h .1 .1 .1
+
+unfoldable pub every? : (P : Tab → Type 0) → ((tab : Tab) → Dec (P tab)) → Dec ((tab : Tab) → P tab)
+every? P d = same-as? (d coils and? d discretes and? d holdings and? d inputs) (every P) (λ h. (h coils, (h discretes, (h holdings, h inputs))))
 
 -- what a cell of this kind can hold
 abbrev pub Fits : Kind → ℕ → Type 0

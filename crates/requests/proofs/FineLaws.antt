@@ -15,13 +15,14 @@ use Rattle.modbus.specs.Request.{Fn, reads, one, many, mask, both, code, Ask, r
 use Rattle.modbus.specs.Storage.{coilAt, registerAt, values}
 use Rattle.modbus.specs.Setup.{Setup}
 use Rattle.modbus.specs.Decode.{outcomeOf, IsRead, Lengthy, Valued, asked}
-use Rattle.modbus.specs.Drive.{Inside}
-use Rattle.modbus.proofs.StepLaws.{bound, needed, bound-stop, needed-stop}
+use Rattle.modbus.specs.Drive.{Inside, weigh}
+use Rattle.modbus.proofs.StepLaws.{bound-stop, needed-stop}
 use Rattle.modbus.proofs.StorageLaws.{length-part}
 use Rattle.modbus.proofs.BytesLaws.{bytes-by}
 use Rattle.modbus.proofs.RequestLaws.{asked-says}
 use Rattle.modbus.proofs.Views.{Hexad, hexad, hexad?}
-use Rattle.modbus.proofs.FindLaws.{found-fn, found-fault}
+use Rattle.modbus.proofs.FindLaws.{found-fault}
+use Rattle.modbus.proofs.WeighLaws.{went}
 use Rattle.requests.specs.Judged.{On, refusedBy, weighed, kept, keptBy, judged}
 use Rattle.requests.specs.declared.Cells.{Cells}
 use Rattle.requests.specs.declared.ReadCells.{ReadCells}
@@ -31,17 +32,6 @@ use Rattle.requests.specs.declared.Write.the-variants.{Bits, Words}
 use Rattle.requests.specs.declared.Verdict.{Verdict}
 use Rattle.requests.specs.declared.Verdict.the-variants.{Read, Written, Masked, Exchanged, Refused, Quiet}
 use Rattle.requests.proofs.JudgedLaws.{on, many-kept}
-
--- ---- what a body that goes through tells
-
-pub went : {C : Type 0} (s : Setup) (broadcast : Bool) (b : List ℕ) {a : Ask} → weighed s broadcast b ≡ go a
-    → ((fn : Fn) → getD b 1 0 ≡ code fn → ¬ (On broadcast × IsRead fn) → Lengthy fn b → Valued fn b → Inside s a → asked fn b ≡ a → C) → C
-unfolding weighed
-went s broadcast b {a} e k =
-    needed _ _ _ e λ p₁ e₁. bound _ _ e₁ λ fn p₂ e₂. needed _ _ _ e₂ λ p₃ e₃. needed _ _ _ e₃ λ p₄ e₄. needed _ _ _ e₄ λ p₅ e₅.
-    needed _ _ _ e₅ λ p₆ e₆.
-    let z : asked fn b ≡ a = cc in
-    k fn (found-fn code _ _ _ fn p₂) p₃ p₄ p₅ (subst (Inside s) z p₆) z
 
 -- ---- what a verdict promises of its body
 
@@ -137,7 +127,7 @@ refused-stopped true c b h = tt
 refused-stopped false c b h = h
 
 stop-stopped : (s : Setup) (broadcast : Bool) (b : List ℕ) (v : Verdict) → weighed s broadcast b ≡ stop v → Stopped b v
-unfolding weighed
+unfolding weigh
 stop-stopped s broadcast b v e =
     needed-stop _ _ _ e (λ n q. subst (Stopped b) q tt)
     λ p e₁. bound-stop _ _ e₁ (λ q. subst (Stopped b) (found-fault code _ _ _ q) (refused-stopped broadcast 1 b p))
@@ -238,7 +228,7 @@ module _ (s : Setup) (broadcast : Bool) (b : List ℕ) where
       where
         by : (w : Step Verdict Ask) → weighed s broadcast b ≡ w → Fine s broadcast b (keptBy w)
         by (stop v) e = stopped-fine s broadcast b v e
-        by (go a) e = went s broadcast b e λ fn n o l v i z. subst (λ x. Fine s broadcast b (kept x)) z (kept-fine fn n o (rw z e) l v (rw z i))
+        by (go a) e = went _ _ s _ b e λ fn n o l v i z. subst (λ x. Fine s broadcast b (kept x)) z (kept-fine fn n o (rw z e) l v (rw z i))
 
     -- for a match on the answer
     pub fine : {r : Verdict} → r ≡ judged s broadcast b → {q : Verdict} → r ≡ q → Fine s broadcast b q

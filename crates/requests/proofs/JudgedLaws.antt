@@ -14,7 +14,7 @@ use Rattle.modbus.specs.Request.{Fn, reads, one, many, both, code, tabOf, Ask, 
 use Rattle.modbus.specs.Storage.{datum, values}
 use Rattle.modbus.specs.Setup.{Setup, proto}
 use Rattle.modbus.specs.Decode.{wrongLength, outcomeOf, IsRead, isRead?, Lengthy, lengthy?, Valued, valued?, asked}
-use Rattle.modbus.specs.Drive.{AllWithin, Inside, inside?}
+use Rattle.modbus.specs.Drive.{AllWithin, Inside, inside?, weigh}
 use Rattle.modbus.proofs.StepLaws.{pass, fail, follow, halt, pick-yes, pick-no}
 use Rattle.modbus.proofs.StorageLaws.{length-part}
 use Rattle.modbus.proofs.FindLaws.{code-low, none, find-fn, find-none}
@@ -49,7 +49,7 @@ module _ (s : Setup) (broadcast : Bool) (b : List ℕ) where
   pub judged-other : getD b 1 0 ≢ 1 → getD b 1 0 ≢ 2 → getD b 1 0 ≢ 3 → getD b 1 0 ≢ 4 → getD b 1 0 ≢ 5 → getD b 1 0 ≢ 6 → getD b 1 0 ≢ 15
       → getD b 1 0 ≢ 16 → getD b 1 0 ≢ 22 → getD b 1 0 ≢ 23
       → choose (getD b 1 0 ≤? 127) (refusedBy broadcast 1) (Quiet 8 0) ≡ judged s broadcast b
-  unfolding judged weighed
+  unfolding judged weigh
   judged-other h1 h2 h3 h4 h5 h6 h15 h16 h22 h23 =
       by-cases (getD b 1 0 ≤? 127)
       (λ l.
@@ -71,7 +71,7 @@ module _ (s : Setup) (broadcast : Bool) (b : List ℕ) (fn : Fn) (e : getD b 1 0
   known : weighed s broadcast b
       ≡ (need (not? (on? broadcast and? isRead? fn)) ignored
       >> (need (lengthy? fn b) (Quiet (outcomeOf wrongLength) 0) >> (need (valued? fn b) (refusedBy broadcast 3) >> ranged)))
-  unfolding weighed
+  unfolding weigh
   known = pass _ _ _ (omega (arith, code-low fn)) ∙ follow _ _ (find-fn _ _ (proto s) fn e)
 
   pub judged-read : On broadcast → IsRead fn → judged s broadcast b ≡ ignored

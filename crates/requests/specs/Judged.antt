@@ -1,15 +1,15 @@
--- What a body comes to, as the driver keeps it: document 01's order from the function to the address, and the cells that a request names.
+-- What a body comes to, as the driver keeps it: what its first fault becomes, and the cells that a request names.
 -- Assumes nothing.
 use mathlib.Core.Bool.{Bool, true, false}
 use mathlib.Core.List.{List, [], _∷_}
 use Prim.Native.Nat.{ℕ}
-use lib.ListN.{length, getD}
-use Rattle.modbus.specs.Step.{Step, stop, go, _>>=_, _>>_, need, _≤?_, _and?_, not?}
+use lib.ListN.{length}
+use Rattle.modbus.specs.Step.{Step, stop, go}
 use Rattle.modbus.specs.Table.{Kind, bit, word}
-use Rattle.modbus.specs.Request.{reads, mask, both, code, offered, Ask, read, write, writes, masks, swaps}
-use Rattle.modbus.specs.Setup.{Setup, proto}
-use Rattle.modbus.specs.Decode.{readIgnored, wrongLength, badFunction, outcomeOf, isRead?, lengthy?, valued?, asked}
-use Rattle.modbus.specs.Drive.{find, inside?}
+use Rattle.modbus.specs.Request.{reads, mask, both, code, Ask, read, write, writes, masks, swaps}
+use Rattle.modbus.specs.Setup.{Setup}
+use Rattle.modbus.specs.Decode.{Silent, readIgnored, outcomeOf}
+use Rattle.modbus.specs.Drive.{weigh}
 use Rattle.requests.specs.declared.Cells.{Cells}
 use Rattle.requests.specs.declared.Write.{Write}
 use Rattle.requests.specs.declared.Write.the-variants.{Bits, Words}
@@ -24,24 +24,21 @@ unfoldable pub on? : (b : Bool) → Dec (On b)
 on? true = yes tt
 on? false = no (λ h. h)
 
+-- a fault without a code: nothing is sent
+abbrev pub quietBy : Silent → Verdict
+quietBy o = Quiet (outcomeOf o) 0
+
 -- a fault with a code: an exception from our own unit; on a broadcast number it is ignored, and nothing is sent
 abbrev pub refusedBy : Bool → ℕ → Verdict
 refusedBy true c = Quiet 3 c
 refusedBy false c = Refused c
 
 abbrev pub ignored : Verdict
-ignored = Quiet (outcomeOf readIgnored) 0
+ignored = quietBy readIgnored
 
--- what the body asks, or its first fault
-unfoldable pub weighed : Setup → Bool → List ℕ → Step Verdict Ask
-weighed s broadcast b = do
-  need (getD b 1 0 ≤? 127) (Quiet (outcomeOf badFunction) 0)
-  fn ← find code (refusedBy broadcast 1) (getD b 1 0) (offered (proto s))
-  need (not? (on? broadcast and? isRead? fn)) ignored
-  need (lengthy? fn b) (Quiet (outcomeOf wrongLength) 0)
-  need (valued? fn b) (refusedBy broadcast 3)
-  need (inside? s (asked fn b)) (refusedBy broadcast 2)
-  go (asked fn b)
+-- what the body asks, or the verdict that its first fault becomes
+abbrev pub weighed : Setup → Bool → List ℕ → Step Verdict Ask
+weighed s broadcast b = weigh quietBy (refusedBy broadcast) s (on? broadcast) b
 
 -- bits or words
 abbrev pub kindBy : Bool → Kind

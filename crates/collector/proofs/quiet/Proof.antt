@@ -1,10 +1,11 @@
 -- `collector::quiet` meets its contract: with nothing held nothing is done; else the frame is served and the state emptied.
 -- Assumes nothing.
 use mathlib.Core.Path.{sym, ap, subst, _∙_}
+use mathlib.Core.List.{[]}
 use native.Mathlib.Omega.{arith}
 use lib.ListN.{length-set}
 use borrow.Author.Needs.{needs}
-use Rattle.driver.specs.Driven.{lentIn}
+use Rattle.driver.specs.Driven.{lending}
 use Rattle.collector.specs.Collected.{served}
 use Rattle.collector.specs.Waits.{Waits}
 use Rattle.collector.proofs.CollectedLaws.{quiet-nothing, quiet-held}
@@ -15,7 +16,7 @@ returns : tie.Need-returns
 returns c =
     let w = c .before .before .waiting in
     let a = c .before .before .before .before .before .before .before .before .before .before .before .args in
-    sym (quiet-nothing (a .setup) _ _ (a .state .now) _ (subst (Waits (a .state .now)) (c .enum-told .given .1) (w .ensures)))
+    sym (quiet-nothing (a .state .now) _ (subst (Waits (a .state .now)) (c .enum-told .given .1) (w .ensures)))
 
 add-end : tie.Need-add-end
 add-end c =
@@ -40,9 +41,9 @@ returns-2 c =
     let a = c .before .before .before .before .before .before .before .before .before .before .before .before .before .before .before .before .before .before .before .before .before .before .before .before .args in
     let n = c .before .before .before .before .before .before .before .before .before .before .before .before .before .n .given in
     let w = subst (Waits (a .state .now)) (n .1) (c .before .before .before .before .before .before .before .before .before .before .before .before .before .before .before .waiting .ensures) in
-    let l = lentIn (a .setup) (a .coils .now) (a .discretes .now) (a .holdings .now) (a .inputs .now) in
+    let l = lending (a .setup) (a .list .now) (a .coils .now) (a .discretes .now) (a .holdings .now) (a .inputs .now) [] (a .reply .now) in
     ap (served (a .state .now)) (c .before .before .before .before .before .before .serve .ensures)
-    ∙ sym (quiet-held (a .setup) (a .list .now) l (a .state .now) (a .reply .now) (n .0 .0) (w .0) (w .1) (w .2))
+    ∙ sym (quiet-held (a .state .now) l (n .0 .0) (w .0) (w .1) (w .2))
 
 pub quiet-spec : {M : Type 1} → statement M
 quiet-spec =

@@ -11,10 +11,10 @@ use Rattle.collector.proofs.serve.Tie as tie
 returns : tie.Need-returns
 returns c =
     let a = c .before .before .before .before .before .before .before .before .before .before .args in
-    ap (λ (d : Driven). leaving d (a .reply .now) (a .coils .now) (a .holdings .now)) (c .refused .ensures) ∙ sym (rtu-other _ _ _ _ _ (c .before .if1 .taken))
+    ap (λ (d : Driven). leaving d (a .reply .now) (a .coils .now) (a .holdings .now)) (c .refused .ensures) ∙ sym (rtu-other _ (c .before .if1 .taken))
 
 returns-2 : tie.Need-returns-2
-returns-2 c = c .before .before .before .before .before .before .drive .ensures ∙ sym (rtu-driven _ _ _ _ _ (c .before .before .before .before .before .before .before .before .before .before .if1 .left))
+returns-2 c = c .before .before .before .before .before .before .drive .ensures ∙ sym (rtu-driven _ (c .before .before .before .before .before .before .before .before .before .before .if1 .left))
 
 pub serve-spec : {M : Type 1} → statement M
 serve-spec = tie.close (tie.spec (λ c κs. search needs) returns (λ c κs. search needs) (λ c. search needs) (λ c. search needs) (λ c. search needs) returns-2)

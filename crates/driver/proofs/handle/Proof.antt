@@ -13,7 +13,7 @@ serve-requires c κs =
     let s = c .before .before .before .before .before .before .before .before .before .before .before .before .before .before .before in
     let a = s .args in (
       (
-        body-ready (a .setup) (a .list .now) (a .coils .now) (a .discretes .now) (a .holdings .now) (a .inputs .now) (a .reply .now) (a .body .now)
+        body-ready (a .setup) (a .list .now) (a .coils .now) (a .discretes .now) (a .holdings .now) (a .inputs .now) (a .frame .now) (a .reply .now) (a .body .now)
             (λ i. omega (arith, c .before .before .before .before .before .before .before .before .before .before .before .before .before .shared-slice-known2 .given i)) (s .pre .0 .0) (s .pre .1) _ (c .before .before .before .before .before .listed .ensures) _ (c .before .before .before .before .judge .ensures),
         rw (s .pre .0 .1) (start-room (protoOf (a .setup .transport)) (a .reply .now) (s .pre .0 .2)),
       ),
@@ -25,10 +25,10 @@ close-requires c κs =
     let s = c .before .before .before .before .before .before .before .before .before .before .before .before .before .before .before .before .before .before .before .before .before .before .before in
     let a = s .args in
     let f = c .before .before .before .before .before .before .before .serve .ensures in (
-      served-brief (a .setup) (a .list .now) (a .coils .now) (a .discretes .now) (a .holdings .now) (a .inputs .now) (a .reply .now) (a .body .now)
+      served-brief (a .setup) (a .list .now) (a .coils .now) (a .discretes .now) (a .holdings .now) (a .inputs .now) (a .frame .now) (a .reply .now) (a .body .now)
           (λ i. omega (arith, c .before .before .before .before .before .before .before .before .before .before .before .before .before .before .before .before .before .before .before .before .before .shared-slice-known2 .given i)) (s .pre .0 .0) (s .pre .1) _ (c .before .before .before .before .before .before .before .before .before .before .before .before .before .listed .ensures) _ (c .before .before .before .before .before .before .before .before .before .before .before .before .judge .ensures)
           (a .start) (s .pre .0 .1) _ _ _ _ f,
-      served-room (a .setup) (a .list .now) (a .coils .now) (a .discretes .now) (a .holdings .now) (a .inputs .now) (a .reply .now) (a .body .now)
+      served-room (a .setup) (a .list .now) (a .coils .now) (a .discretes .now) (a .holdings .now) (a .inputs .now) (a .frame .now) (a .reply .now) (a .body .now)
           (λ i. omega (arith, c .before .before .before .before .before .before .before .before .before .before .before .before .before .before .before .before .before .before .before .before .before .shared-slice-known2 .given i)) (s .pre .0 .0) (s .pre .1) _ (c .before .before .before .before .before .before .before .before .before .before .before .before .before .listed .ensures) _ (c .before .before .before .before .before .before .before .before .before .before .before .before .judge .ensures)
           (a .start) (s .pre .0 .1) _ _ _ _ f (s .pre .0 .2),
       s .pre .0 .3,
@@ -38,7 +38,7 @@ returns : tie.Need-returns
 returns c =
     let s = c .before .before .before .before .before .before .before .before .before .before .before .before .before .before .before .before .before .before .before .before .before .before .before .before .before .before .before in
     let a = s .args in
-    closed-handled (a .setup) (a .list .now) (a .coils .now) (a .discretes .now) (a .holdings .now) (a .inputs .now) (a .reply .now) (a .body .now)
+    closed-handled (a .setup) (a .list .now) (a .coils .now) (a .discretes .now) (a .holdings .now) (a .inputs .now) (a .frame .now) (a .reply .now) (a .body .now)
     (λ i. omega (arith, c .before .before .before .before .before .before .before .before .before .before .before .before .before .before .before .before .before .before .before .before .before .before .before .before .before .shared-slice-known2 .given i)) (s .pre .0 .0) (s .pre .1) _ (c .before .before .before .before .before .before .before .before .before .before .before .before .before .before .before .before .before .listed .ensures) _ (c .before .before .before .before .before .before .before .before .before .before .before .before .before .before .before .before .judge .ensures)
     (a .start) (s .pre .0 .1) _ _ _ _ (c .before .before .before .before .before .before .before .before .before .before .before .serve .ensures) _ _ (s .pre .0 .2) _ _ (c .before .before .before .close .ensures) _ (c .result .ensures ∙ c .before .before .before .before .before .before .before .before .before .before .before .before .before .before .before .tell .ensures _)
 
