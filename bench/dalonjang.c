@@ -12,8 +12,12 @@ static struct dalonjang_unit unit; /* made before the first call of a row, as fi
 static int start(const struct row *row) {
     size_t cells = row->cells, bits = (cells + 7) / 8;
     unit = (struct dalonjang_unit){
-        {row->kind > CRC ? DALONJANG_RTU : (uint8_t)row->kind, UNIT, row->how == SMALL, cells, cells, cells, cells},
-        everyone, sizeof everyone, coils, bits, discretes, bits, holdings, 2 * cells, inputs, 2 * cells};
+        .setup = {.transport = row->kind > CRC ? DALONJANG_RTU : (uint8_t)row->kind, .unit = UNIT,
+                  .hex = row->how == SMALL, .coil_cells = cells, .discrete_cells = cells, .holding_cells = cells,
+                  .input_cells = cells},
+        .list = everyone, .list_len = sizeof everyone, .coils = coils, .coils_len = bits, .discretes = discretes,
+        .discretes_len = bits, .holdings = holdings, .holdings_len = 2 * cells, .inputs = inputs,
+        .inputs_len = 2 * cells};
     return cells <= DALONJANG_MOST_CELLS;
 }
 

@@ -78,16 +78,17 @@ proved_module() {
 # writes a large function in place only where it has one call, so that serving costs nothing for what else is there, and
 # firmware links only what it calls.
 parts_of() {
-    case $1 in dalonjang) echo serve uart ask ;; *) echo all ;; esac
+    case $1 in dalonjang) echo serve uart ask crc ;; *) echo all ;; esac
 }
 
 # calls_of PART <CALLS: those that it has
 calls_of() {
-    local uart='offer|quiet' ask='generate_get|generate_set|generate_mask|generate_set_get|parse_response'
+    local uart='offer|quiet' ask='generate_get|generate_set|generate_mask|generate_set_get|parse_response' crc='calc_crc16'
     case $1 in
     uart) grep -E "_($uart)\$" ;;
     ask) grep -E "_($ask)\$" ;;
-    serve) grep -vE "_($uart|$ask)\$" ;;
+    crc) grep -E "_($crc)\$" ;;
+    serve) grep -vE "_($uart|$ask|$crc)\$" ;;
     all) cat ;;
     esac
 }
@@ -121,7 +122,7 @@ make_part() {
     local target=$1 part=$2 call own=''
     for call in $(calls_of "$part" <"$made/calls"); do own="$own|$call"; done
     if [ "$target" = x86_64 ]; then
-        sed -E "/@(${own#|})\\(/!s/^define (\{|void|i[0-9])/define internal \\1/" "$made/proved.ll" >"$made/$part.ll" &&
+        sed -E "/@(${own#|})\\(/!s/^define (noundef )?(\{|void|i[0-9])/define internal \\1\\2/" "$made/proved.ll" >"$made/$part.ll" &&
             (cd "$made" && for_target x86_64 -fstack-usage -c -x ir "$part.ll" -o "$part.o")
     else
         (cd "$made" && for_target "$target" "${c[@]}" -Wall -Wextra -fomit-frame-pointer \

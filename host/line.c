@@ -19,17 +19,18 @@ static const char *start(struct line *l) {
     return wrong;
 }
 
-int line_open(struct line *l, const struct options *o, size_t which) {
-    int rtu = o->line[which].transport == DALONJANG_RTU;
+static int is_rtu(const struct line *l) { return l->port.unit.setup.transport == DALONJANG_RTU; }
+
+int line_open(struct line *l, const struct station *s, const struct options *o, size_t which) {
     memset(l, 0, sizeof *l);
-    l->transport = o->line[which].transport;
     l->device = o->line[which].device;
-    l->mode = o->mode != NULL ? o->mode : serial_mode(l->transport);
+    l->port = station_port(s, o, o->line[which].transport, l->device);
+    int rtu = is_rtu(l);
+    l->mode = o->mode != NULL ? o->mode : serial_mode(o->line[which].transport);
     l->baud = o->baud;
     l->rs485 = o->rs485;
     l->pause = !rtu ? ASCII_SILENCE : o->silence > 0 ? (int64_t)o->silence : serial_characters(o->baud);
     l->silence = !rtu || o->silence > 0 || l->pause > BURSTS ? l->pause : BURSTS;
-    snprintf(l->name, sizeof l->name, "%s %s", rtu ? "rtu" : "ascii", l->device);
     const char *wrong = start(l);
     if (wrong != NULL) complain("the serial line %s cannot be used: %s", l->device, wrong);
     return wrong == NULL;
@@ -37,8 +38,8 @@ int line_open(struct line *l, const struct options *o, size_t which) {
 
 /* An adapter that was pulled out comes back under its name. What had come and was to go is lost with the line. */
 static void lose(struct line *l, struct station *s, int64_t now) {
-    log_event(s->log, l->name, "lost");
-    complain("the serial line %s is lost; it is tried again twice a second", l->name);
+    log_event(s->log, l->port.name, "lost");
+    complain("the serial line %s is lost; it is tried again twice a second", l->port.name);
     close(l->fd);
     l->fd = -1;
     l->have = l->pieces = l->out.left = 0;
@@ -50,32 +51,32 @@ static void lose(struct line *l, struct station *s, int64_t now) {
 static void try_again(struct line *l, struct station *s, int64_t now) {
     l->since = now;
     if (start(l) != NULL) return;
-    log_event(s->log, l->name, "back");
-    complain("the serial line %s is back", l->name);
+    log_event(s->log, l->port.name, "back");
+    complain("the serial line %s is back", l->port.name);
 }
 
 /* --- frames ------------------------------------------------------------------------------------------------------- */
 
-static const uint8_t *held(const struct line *l) { return l->collector + 2; }
-
 /* ASCII: what is held is one frame. */
 static void serve_ascii(struct line *l, struct station *s) {
     struct outbox *out = &l->out;
-    out->left += station_serve(s, l->name, l->transport, l->in, l->have, outbox_end(out), outbox_room(out)).length;
+    out->left +=
+        station_serve(s, &l->port, l->port.name, l->in, l->have, outbox_end(out), outbox_room(out)).length;
     l->have = 0;
 }
 
-/* RTU: the first `len` of the bytes that are held are one frame, after which the line was quiet; the others are offered
+/* RTU: the first `len` of the bytes that came are one frame, after which the line was quiet; the others are offered
  * anew. */
 static void serve_rtu(struct line *l, size_t len, struct station *s) {
     struct outbox *out = &l->out;
-    uint8_t bytes[DALONJANG_COLLECTOR];
-    memcpy(bytes, held(l), l->have);
-    memset(l->collector, 0, sizeof l->collector);
-    dalonjang_offer(l->collector, sizeof l->collector, bytes, len);
-    out->left += station_quiet(s, l->name, l->collector, len, outbox_end(out), outbox_room(out)).length;
+    if (len < l->have) {
+        memset(l->collector, 0, sizeof l->collector);
+        dalonjang_offer(l->collector, sizeof l->collector, l->in, len);
+    }
+    out->left += station_quiet(s, &l->port, l->collector, l->in, len, outbox_end(out), outbox_room(out)).length;
     l->have -= len;
-    dalonjang_offer(l->collector, sizeof l->collector, bytes + len, l->have);
+    memmove(l->in, l->in + len, l->have);
+    dalonjang_offer(l->collector, sizeof l->collector, l->in, l->have);
     size_t gone = 0;
     while (gone < l->pieces && l->piece[gone] <= len) gone++;
     l->pieces -= gone;
@@ -89,17 +90,16 @@ static void collect_rtu(struct line *l, const uint8_t *bytes, size_t len, struct
     if (l->paused) l->piece[l->pieces++] = l->have;
     l->paused = 0;
     while (l->pieces > 0 && l->have + len > RTU_MOST) serve_rtu(l, l->piece[0], s);
-    l->have = dalonjang_offer(l->collector, sizeof l->collector, bytes, len).value;
+    size_t held = dalonjang_offer(l->collector, sizeof l->collector, bytes, len).value;
+    memcpy(l->in + l->have, bytes, held - l->have);
+    l->have = held;
 }
 
-/* SER 6.2.2: over a frame and its own CRC the CRC is 0. */
+/* Whether these bytes end with the CRC of those before, low byte first (SER 2.5.1). */
 static int is_whole(const uint8_t *bytes, size_t len) {
-    unsigned crc = 0xFFFF;
-    for (size_t i = 0; i < len; i++) {
-        crc ^= bytes[i];
-        for (int k = 0; k < 8; k++) crc = crc & 1 ? crc >> 1 ^ 0xA001 : crc >> 1;
-    }
-    return len >= RTU_LEAST && len <= RTU_MOST && crc == 0;
+    if (len < RTU_LEAST || len > RTU_MOST) return 0;
+    uint16_t crc = dalonjang_calc_crc16(bytes, len, (uint8_t)(len - 2));
+    return bytes[len - 2] == (crc & 0xFF) && bytes[len - 1] == crc >> 8;
 }
 
 /* RTU: after a pause a frame whose CRC is right is over, from the beginning or from the last pause before which other
@@ -108,7 +108,7 @@ static int is_whole(const uint8_t *bytes, size_t len) {
 static void end_rtu(struct line *l, struct station *s, int over) {
     size_t from = 0;
     l->paused = 1;
-    for (size_t i = 0; !is_whole(held(l) + from, l->have - from); i++) {
+    for (size_t i = 0; !is_whole(l->in + from, l->have - from); i++) {
         if (i == l->pieces) {
             if (over) serve_rtu(l, l->have, s);
             l->paused = !over;
@@ -151,15 +151,15 @@ void line_hear(struct line *l, short events, struct station *s, int64_t now) {
     if (l->fd < 0 || l->out.left > 0 || (!over && !(events & (POLLIN | POLLHUP | POLLERR)))) return;
     ssize_t got = read(l->fd, bytes, sizeof bytes);
     if (got > 0) {
-        if (l->transport == DALONJANG_RTU) collect_rtu(l, bytes, (size_t)got, s);
+        if (is_rtu(l)) collect_rtu(l, bytes, (size_t)got, s);
         else collect_ascii(l, bytes, (size_t)got, s);
         l->since = clock_ms();
     } else if (got == 0 || (errno != EAGAIN && errno != EINTR)) {
         lose(l, s, now);
-    } else if (over && l->transport == DALONJANG_RTU) {
+    } else if (over && is_rtu(l)) {
         end_rtu(l, s, now >= l->since + l->silence);
     } else if (over) {
-        log_event(s->log, l->name, "a frame that did not go on was dropped");
+        log_event(s->log, l->port.name, "a frame that did not go on was dropped");
         l->have = 0;
     }
 }
@@ -172,7 +172,7 @@ void line_answer(struct line *l, struct station *s, int64_t now) {
     if (sent > 0) l->since = now;
     if (sent < 0) lose(l, s, now);
     else if (l->out.left == left && now >= line_due(l)) {
-        log_event(s->log, l->name, "a reply that was not taken was dropped");
+        log_event(s->log, l->port.name, "a reply that was not taken was dropped");
         l->out.left = 0;
     }
 }

@@ -10,23 +10,22 @@ enum { MOST_PIECES = 16 };
 
 struct line {
     int fd; /* -1: lost; it is tried again */
-    uint8_t transport;
+    struct port port;
     const char *device, *mode;
     size_t baud;
     int rs485;
-    char name[64];
-    uint8_t in[512];                        /* ASCII: one more than the longest frame */
-    uint8_t collector[DALONJANG_COLLECTOR]; /* RTU */
-    size_t have;                            /* bytes in either */
+    uint8_t in[512]; /* what came; on ASCII one more than the longest frame, on RTU what the collector took */
+    size_t have;
+    uint8_t collector[DALONJANG_COLLECTOR]; /* RTU: the library's own */
     int64_t pause, silence; /* in milliseconds: RTU, what ends a frame that is whole, and any; ASCII, what drops one */
     int paused;             /* RTU: the pause is over, and what came is not a whole frame */
-    size_t piece[MOST_PIECES], pieces; /* RTU: where among those held bytes stand that came after a pause */
+    size_t piece[MOST_PIECES], pieces; /* RTU: where in `in` bytes stand that came after a pause */
     int64_t since;          /* when the last byte came or went, or the line was lost or tried */
     struct outbox out;
 };
 
 /* Answers 0 after a line on standard error. */
-int line_open(struct line *l, const struct options *o, size_t which);
+int line_open(struct line *l, const struct station *s, const struct options *o, size_t which);
 struct pollfd line_wants(const struct line *l);
 int64_t line_due(const struct line *l);
 void line_hear(struct line *l, short events, struct station *s, int64_t now);

@@ -78,8 +78,8 @@ static int begin(struct host *h, struct options *o) {
     if (!open_log(h, o->log) || !fill_tables(s, o)) return 0;
     if (o->export) return 1;
     for (; h->lines < o->lines; h->lines++)
-        if (!line_open(&h->line[h->lines], o, h->lines)) return 0;
-    return tcp_open(&h->tcp, o);
+        if (!line_open(&h->line[h->lines], s, o, h->lines)) return 0;
+    return tcp_open(&h->tcp, s, o);
 }
 
 /* The first lines: where it listens, and a command to try. */
@@ -90,7 +90,7 @@ static void announce(const struct host *h, const struct options *o) {
     for (size_t i = 0; i < h->tcp.listeners; i++)
         voice_line(&to_output, "dalonjang: Modbus TCP on %s", h->tcp.listener[i].name);
     for (size_t i = 0; i < h->lines; i++)
-        voice_line(&to_output, "dalonjang: serial line %s, %zu baud", h->line[i].name, o->baud);
+        voice_line(&to_output, "dalonjang: serial line %s, %zu baud", h->line[i].port.name, o->baud);
     ADD("unit %zu, broadcast", o->unit);
     for (size_t i = 0; i < o->list_len; i++) ADD("%s%u", i == 0 ? " " : ",", o->list[i]);
     ADD("%s; cells:", o->list_len == 0 ? " none" : "");

@@ -65,8 +65,9 @@ static int listen_on_all(struct tcp *t, struct options *o) {
     return fine;
 }
 
-int tcp_open(struct tcp *t, struct options *o) {
-    *t = (struct tcp){.idle = o->idle == 0 ? NEVER : (int64_t)o->idle * 1000, .patience = (int64_t)o->patience * 1000};
+int tcp_open(struct tcp *t, const struct station *s, struct options *o) {
+    *t = (struct tcp){.port = station_port(s, o, DALONJANG_TCP, NULL),
+        .idle = o->idle == 0 ? NEVER : (int64_t)o->idle * 1000, .patience = (int64_t)o->patience * 1000};
     if (o->no_tcp) return 1;
     t->client = calloc(o->clients, sizeof *t->client);
     t->places = t->client == NULL ? 0 : o->clients;
@@ -107,7 +108,7 @@ static void serve_next(struct tcp *t, struct client *c, struct station *s, int64
     c->deaf = is_lost(length_field(c));
     size_t len = c->deaf ? c->have : HEADER + length_field(c);
     struct dalonjang_result r =
-        station_serve(s, c->name, DALONJANG_TCP, c->in, len, outbox_end(&c->out), outbox_room(&c->out));
+        station_serve(s, &t->port, c->name, c->in, len, outbox_end(&c->out), outbox_room(&c->out));
     c->out.left += r.length;
     c->have -= len;
     memmove(c->in, c->in + len, c->have);

@@ -34,6 +34,7 @@ struct listener {
 };
 
 struct tcp {
+    struct port port;
     struct listener listener[MOST_LISTENERS];
     size_t listeners;
     int for_all;  /* others than this machine can come */
@@ -46,7 +47,7 @@ struct tcp {
 };
 
 /* Listens, and leaves the port in `o` where any was asked for. Answers 0 after a line on standard error. */
-int tcp_open(struct tcp *t, struct options *o);
+int tcp_open(struct tcp *t, const struct station *s, struct options *o);
 /* Fills one pollfd for each listener and for each place. Answers how many. */
 size_t tcp_wants(const struct tcp *t, struct pollfd *fds, int64_t now);
 /* When something must happen although nothing comes. */

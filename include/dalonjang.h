@@ -2,8 +2,8 @@
  *
  * One call takes one whole request frame as it came over the line, serves it on four tables that you lend, and writes
  * the reply frame into a buffer that you lend. Two more calls collect an RTU frame from bytes as the UART brings them,
- * and serve it when the line is quiet. Four more help to find where a frame ends, and turn bytes into Modbus ASCII text
- * and back. Five are for whoever asks: they build requests and read the replies.
+ * and serve it when the line is quiet. Five more help to find where a frame ends, give the CRC of an RTU frame, and turn
+ * bytes into Modbus ASCII text and back. Five are for whoever asks: they build requests and read the replies.
  *
  * Slices. Every buffer is a pointer, then its length in bytes. A NULL with length 0 is an empty slice. A pointer need
  *   only be good for exactly that many bytes: nothing is read or written before or after them, and bytes need not be
@@ -192,7 +192,7 @@ static inline struct dalonjang_result dalonjang_serve(const struct dalonjang_uni
         frame, frame_len, reply, reply_len);
 }
 
-/* How the calls below answer, but for those that give a result or a reading. Document 01 numbers more kinds; these calls give no others. */
+/* How the calls below answer, but for those that give a result, a reading or a CRC. Document 01 numbers more kinds; these calls give no others. */
 enum dalonjang_kind {
     DALONJANG_KIND_VALUE = 0,        /* value holds */
     DALONJANG_KIND_NO_ROOM = 9,      /* the lent buffer is shorter than the frame */
@@ -297,6 +297,16 @@ struct dalonjang_answer dalonjang_parse_ascii_frame(const uint8_t *data, size_t 
  * OOB            result is shorter than that; it is filled with as much of the line as it holds. */
 struct dalonjang_answer dalonjang_generate_ascii_frame(const uint8_t *data, size_t data_len,
     uint8_t *result, size_t result_len);
+
+/* The CRC of the first data_length bytes of frame, or of all where it has fewer. For whoever has to know whether what
+ * came so far is a whole RTU frame, as on a line where pauses do not tell; the calls that serve look at it themselves.
+ * Of n bytes, 4 to 256, the last two must be the CRC of those before, low byte first:
+ *
+ *     uint16_t crc = dalonjang_calc_crc16(frame, n, n - 2);
+ *     int whole = frame[n - 2] == (crc & 0xFF) && frame[n - 1] == crc >> 8;
+ *
+ * Of more than 255 bytes the CRC cannot be asked. That of none is 0xFFFF. Nothing is written. */
+uint16_t dalonjang_calc_crc16(const uint8_t *frame, size_t frame_len, uint8_t data_length);
 
 /* The asking side. A request is built into a buffer that you lend, and its reply is read against that very frame: keep
  * it until the reply has come. Values are 16-bit numbers, one a cell, a coil 0 or 1.

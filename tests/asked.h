@@ -1,9 +1,9 @@
-/* One call of dalonjang_drive as a record, for the programs that test it, and the same by the collector. Built with
- * -DFAULT=1 to 7 or 10 to 18 the driver's answer is made slightly wrong on its way there or back, and the
- * collector's with 8, 9 and 19, to show that a program sees it. */
+/* One call of dalonjang_drive by field, for the programs that test it, on a board and beside the Rust too, and the same by
+ * the collector; no other place of theirs makes these calls. Built with -DFAULT=1 to 7 or 10 to 18 the driver's answer is
+ * made slightly wrong on its way there or back, and the collector's with 8, 9 and 19, to show that a program sees it. */
 #ifndef ASKED_H
 #define ASKED_H
-#include "../include/dalonjang.h"
+#include "record.h"
 #include <stdio.h>
 #include <string.h>
 
@@ -11,17 +11,9 @@
 #define FAULT 0
 #endif
 
-enum { COILS, DISCRETES, HOLDINGS, INPUTS, TABLES };
-
-struct slice {
-    uint8_t *bytes;
-    size_t len;
-};
-
 struct asked {
-    uint8_t transport, unit, hex;
+    struct dalonjang_setup setup;
     struct slice list, table[TABLES], frame, reply;
-    size_t cells[TABLES];
 };
 
 /* Document 01's driver, written plainly (model.c). */
@@ -46,15 +38,26 @@ static inline struct dalonjang_result silent(int outcome, int code) {
     return (struct dalonjang_result){.outcome = (uint8_t)outcome, .code = (uint8_t)code};
 }
 
-static inline int same_result(struct dalonjang_result a, struct dalonjang_result b) {
-    return a.length == b.length && a.outcome == b.outcome && a.code == b.code && a.table == b.table
-        && a.first == b.first && a.count == b.count;
+/* The first number in which two results differ, or NULL. */
+static inline const char *other_number(struct dalonjang_result a, struct dalonjang_result b) {
+#define OTHER(of, name, bytes) if (a.name != b.name) return "the result's " #name;
+    RESULT_NUMBERS(OTHER, )
+#undef OTHER
+    return a.length != b.length ? "the result's length" : NULL;
+}
+static inline int same_result(struct dalonjang_result a, struct dalonjang_result b) { return !other_number(a, b); }
+
+#define SAY(of, name, bytes) printf(", " #name " %u", (unsigned)(of).name);
+static inline void print_setup(struct dalonjang_setup s) {
+    printf("cells %zu %zu %zu %zu", s.coil_cells, s.discrete_cells, s.holding_cells, s.input_cells);
+    SETUP_NUMBERS(SAY, s)
 }
 
 static inline void print_result(const char *whose, struct dalonjang_result r) {
-    printf("\n  %s: outcome %u, code %u, length %zu, table %u, first %u, count %u", whose, r.outcome, r.code, r.length,
-           r.table, r.first, r.count);
+    printf("\n  %s: length %zu", whose, r.length);
+    RESULT_NUMBERS(SAY, r)
 }
+#undef SAY
 
 /* The reply of a served write, on TCP. */
 static inline struct dalonjang_result echoed(const struct asked *a, struct dalonjang_result r) {
@@ -67,7 +70,7 @@ static inline struct dalonjang_result echoed(const struct asked *a, struct dalon
 /* The holdings that a frame of function 23 reads, as they are before it, on TCP. */
 static inline void keep_old(const struct asked *a, uint8_t *old) {
     const uint8_t *body = a->frame.bytes + 6;
-    if (a->transport != DALONJANG_TCP || a->frame.len < 12 || body[1] != 23 || word(body + 4) > 125) return;
+    if (a->setup.transport != DALONJANG_TCP || a->frame.len < 12 || body[1] != 23 || word(body + 4) > 125) return;
     size_t from = 2 * word(body + 2), bytes = 2 * word(body + 4);
     if (from + bytes <= a->table[HOLDINGS].len) memcpy(old, a->table[HOLDINGS].bytes + from, bytes);
 }
@@ -84,14 +87,14 @@ static inline void answer_small(const struct asked *a, size_t length) {
 
 /* The switch as a driver would have it that is always lenient, or that looks at it where text is read alone. */
 static inline uint8_t switch_of(const struct asked *a) {
-    if (FAULT == 13 && a->hex == DALONJANG_STRICT) return DALONJANG_LENIENT;
-    return FAULT == 15 && a->transport != DALONJANG_ASCII ? DALONJANG_STRICT : a->hex;
+    if (FAULT == 13 && a->setup.hex == DALONJANG_STRICT) return DALONJANG_LENIENT;
+    return FAULT == 15 && a->setup.transport != DALONJANG_ASCII ? DALONJANG_STRICT : a->setup.hex;
 }
 
 /* The answer as a slightly wrong driver would give it; fault 3 on RTU, 14 on ASCII, the others on TCP. */
 static inline struct dalonjang_result spoilt(const struct asked *a, struct dalonjang_result r, const uint8_t *old) {
-    if (FAULT == 14 && a->transport == DALONJANG_ASCII) answer_small(a, r.length);
-    if (FAULT == 0 || a->transport != (FAULT == 3 ? DALONJANG_RTU : DALONJANG_TCP) || a->frame.len < 4
+    if (FAULT == 14 && a->setup.transport == DALONJANG_ASCII) answer_small(a, r.length);
+    if (FAULT == 0 || a->setup.transport != (FAULT == 3 ? DALONJANG_RTU : DALONJANG_TCP) || a->frame.len < 4
         || (FAULT != 3 && a->frame.len < 12)) return r;
     const uint8_t *body = a->frame.bytes + (FAULT == 3 ? 0 : 6);
     size_t function = body[1], start = word(body + 2), count = FAULT == 3 ? 0 : word(body + 4);
@@ -106,8 +109,8 @@ static inline struct dalonjang_result spoilt(const struct asked *a, struct dalon
             && (count == 1 || function == 5 || function == 6)) r = echoed(a, r);
         break;
     case 3: /* an unknown function is answered before the check, as in the crate */
-        if (r.outcome == DALONJANG_FRAME_CHECK && body[0] == a->unit && function > 6 && function < 15) {
-            reply[0] = a->unit, reply[1] = (uint8_t)(function + 128), reply[2] = DALONJANG_ILLEGAL_FUNCTION;
+        if (r.outcome == DALONJANG_FRAME_CHECK && body[0] == a->setup.unit && function > 6 && function < 15) {
+            reply[0] = a->setup.unit, reply[1] = (uint8_t)(function + 128), reply[2] = DALONJANG_ILLEGAL_FUNCTION;
             uint16_t crc = model_crc(reply, 3);
             reply[3] = (uint8_t)crc, reply[4] = (uint8_t)(crc >> 8);
             r = silent(DALONJANG_EXCEPTION, DALONJANG_ILLEGAL_FUNCTION);
@@ -116,7 +119,7 @@ static inline struct dalonjang_result spoilt(const struct asked *a, struct dalon
         break;
     case 4: /* function 16 stores what its byte count says, whatever its count, as in the crate */
         if (r.outcome == DALONJANG_EXCEPTION && r.code == DALONJANG_ILLEGAL_DATA_VALUE && function == 16 && count >= 1
-            && count <= 123 && body[6] % 2 == 0 && start + body[6] / 2u <= a->cells[HOLDINGS]) {
+            && count <= 123 && body[6] % 2 == 0 && start + body[6] / 2u <= a->setup.holding_cells) {
             for (size_t i = 0; i < body[6]; i++) a->table[HOLDINGS].bytes[2 * start + i] = body[7 + i];
             r = echoed(a, r);
         }
@@ -142,7 +145,7 @@ static inline struct dalonjang_result spoilt(const struct asked *a, struct dalon
         break;
     case 12: /* function 23 writes before its read range is tested */
         if (r.outcome == DALONJANG_EXCEPTION && r.code == DALONJANG_ILLEGAL_DATA_ADDRESS && function == 23
-            && word(body + 6) + word(body + 8) <= a->cells[HOLDINGS])
+            && word(body + 6) + word(body + 8) <= a->setup.holding_cells)
             memcpy(a->table[HOLDINGS].bytes + 2 * word(body + 6), body + 11, body[10]);
         break;
     case 16: /* function 23 names what it reads */
@@ -162,11 +165,12 @@ static inline struct dalonjang_result spoilt(const struct asked *a, struct dalon
 
 static inline struct dalonjang_unit unit_of(const struct asked *a) {
     const struct slice *t = a->table;
-    return (struct dalonjang_unit){
-        {a->transport, a->unit, switch_of(a), a->cells[COILS], a->cells[DISCRETES], a->cells[HOLDINGS],
-         a->cells[INPUTS]},
-        a->list.bytes, a->list.len, t[COILS].bytes, t[COILS].len, t[DISCRETES].bytes, t[DISCRETES].len,
-        t[HOLDINGS].bytes, t[HOLDINGS].len, t[INPUTS].bytes, t[INPUTS].len};
+    struct dalonjang_unit unit = {.setup = a->setup, .list = a->list.bytes, .list_len = a->list.len,
+        .coils = t[COILS].bytes, .coils_len = t[COILS].len, .discretes = t[DISCRETES].bytes,
+        .discretes_len = t[DISCRETES].len, .holdings = t[HOLDINGS].bytes, .holdings_len = t[HOLDINGS].len,
+        .inputs = t[INPUTS].bytes, .inputs_len = t[INPUTS].len};
+    unit.setup.hex = switch_of(a);
+    return unit;
 }
 
 /* Through dalonjang_serve, so that it is tested too. */

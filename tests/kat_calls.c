@@ -1,4 +1,4 @@
-/* The header's other four calls: both guesses, and ASCII text to bytes and back. */
+/* The header's other five calls: both guesses, ASCII text to bytes and back, and the CRC. */
 #include "kat.h"
 #include <string.h>
 
@@ -210,6 +210,28 @@ static const struct {
     {"generate into four bytes", "9A 0F", 4, 21, 0, "':9A0"},
 };
 
+/* Case l, and both sides of the bytes that there are and of the most that can be asked. */
+static const struct {
+    const char *name, *bytes;
+    uint8_t data_length;
+    uint16_t crc;
+} crcs[] = {
+    {"CRC of nothing", "", 0, 0xFFFF},
+    {"CRC of 00", "00", 1, 0x40BF},
+    {"CRC of FF", "FF", 1, 0x00FF},
+    {"CRC of no byte of FF", "FF", 0, 0xFFFF},
+    {"CRC of 1 byte of none", "", 1, 0xFFFF},
+    {"CRC of 255 bytes of FF", "FF", 255, 0x00FF},
+    {"CRC of a, a byte less", "01 03 0000 0002 C40B", 5, 0x8419},
+    {"CRC of a", "01 03 0000 0002 C40B", 6, 0x0BC4},
+    {"CRC of a, a byte more", "01 03 0000 0002 C40B", 7, 0x000B},
+    {"CRC of a with its own", "01 03 0000 0002 C40B", 8, 0x0000},
+    {"CRC of the longest frame", "01 07 00*252 1F9D", 254, 0x9D1F},
+    {"CRC of 254 bytes, one asked more", "A5*254", 255, 0xC768},
+    {"CRC of 255 bytes", "A5*255", 255, 0x9506},
+    {"CRC of 255 bytes of 256", "A5*256", 255, 0x9506},
+};
+
 static void answered(const char *name, struct dalonjang_answer a, uint8_t kind, size_t value) {
     if (a.kind != kind) different(name, "the kind");
     if (a.value != value) different(name, "the value");
@@ -254,5 +276,10 @@ void other_calls(void) {
         answered(lines[i].name, dalonjang_generate_ascii_frame(s.bytes, s.len, o.bytes, o.len), lines[i].kind,
                  lines[i].value);
         left_behind(lines[i].name, out, sizeof out, 0, lines[i].left);
+    }
+    for (size_t i = 0; i < CASES(crcs); i++) {
+        struct slice s = slice(in, bytes_of(crcs[i].bytes, in));
+        if (dalonjang_calc_crc16(s.bytes, s.len, crcs[i].data_length) != crcs[i].crc) different(crcs[i].name, "it");
+        checks++;
     }
 }

@@ -10,13 +10,10 @@
 static struct asked laid(const struct setup *s, int transport, struct slice frame) {
     static uint8_t lent[TABLES][MOST], list[8], room[1024];
     size_t width = s->room < 0 ? 0 : s->room > 0 ? (size_t)s->room : transport == DALONJANG_ASCII ? 511 : 260;
-    struct asked a = {.transport = (uint8_t)transport, .unit = s->unit, .hex = s->hex, .frame = frame,
-                      .reply = slice(room, width)};
+    struct asked a = {.setup = s->numbers, .frame = frame, .reply = slice(room, width)};
+    a.setup.transport = (uint8_t)transport;
     a.list = slice(list, bytes_of(s->list, list));
-    for (int t = 0; t < TABLES; t++) {
-        a.table[t] = slice(lent[t], bytes_of(s->table[t], lent[t]));
-        a.cells[t] = s->cells[t];
-    }
+    for (int t = 0; t < TABLES; t++) a.table[t] = slice(lent[t], bytes_of(s->table[t], lent[t]));
     for (size_t i = 0; i < width; i++) room[i] = as_lent(i);
     return a;
 }
@@ -30,11 +27,8 @@ void call_case(const struct row *row, const struct asked *a, struct slice reply)
     bytes_of(row->now, after[row->table] + row->at);
     if (a->frame.len > 0) memcpy(asked_bytes, a->frame.bytes, a->frame.len);
     struct dalonjang_result r = drive(a);
-    if (r.outcome != row->outcome) different(row->name, "the outcome");
-    if (r.code != row->code) different(row->name, "the code");
-    if (r.length != reply.len) different(row->name, "the reply's length");
-    if (r.table != named(row->table, row->count)) different(row->name, "the table that is named");
-    if (r.first != row->first || r.count != row->count) different(row->name, "the range that is named");
+    const char *other = other_number(r, wanted(row, reply.len));
+    if (other != NULL) different(row->name, other);
     if (!equal(reply, a->reply.bytes)) different(row->name, "the reply");
     for (size_t i = reply.len; i < a->reply.len; i++)
         if (a->reply.bytes[i] != as_lent(i)) different(row->name, "a byte after the reply");
@@ -96,7 +90,7 @@ static void each_of_row(each_case *each, const struct row *row) {
 static void each_setup(each_case *each) {
     static uint8_t body[16], frame[64], reply[64];
     for (size_t i = 0; i < CASES(setups); i++) {
-        int t = setups[i].transport, outcome = setups[i].outcome;
+        int t = setups[i].setup.numbers.transport, outcome = setups[i].outcome;
         struct row row = {.name = setups[i].name, .outcome = outcome, .now = ""};
         size_t len = wrapped(t > 2 ? 2 : t, body, bytes_of("01 03 0000 0002", body), frame);
         size_t want = outcome != 0 ? 0 : wrapped(t, body, bytes_of("01 03 04 0102 0304", body), reply);

@@ -5,18 +5,13 @@
 static const char *const head =
     "# Document 01's cases and both sides of its numbers: calls of the driver with what has to come of them,\n"
     "# one record a line in hex digits. Made by `kat list` (tests/kat.c, built by bin/driver-runs); not to be\n"
-    "# edited by hand.\n"
-    "# A record, numbers high byte first:\n"
-    "#   transport (1 byte), unit (1), switch for lower case (1); expected: outcome (1), exception code (1)\n"
-    "#   expected: the cells written, as the result names them: table (1), first (2), count (2)\n"
-    "#   length of the reply buffer (2)\n"
-    "#   the table that changes (1: 0 coils, 1 discretes, 2 holdings, 3 inputs) and the byte from which on (4)\n"
-    "#   for each table: length in bytes (4), cells (8), and the byte (1) that fills it behind its front\n"
-    "#   the lengths (2 each) of the eight parts that follow: broadcast list, frame; expected: reply, changed bytes;\n"
-    "#   the front of each table.\n";
+    "# edited by hand. A record has these numbers, each with its bytes, high byte first (tests/record.h):\n";
 
-static void put_number(size_t n, int width) {
-    while (width-- > 0) printf("%02X", (unsigned)(n >> 8 * width) & 0xFF);
+static void put_number(uint64_t n, int width) {
+    while (width-- > 0) {
+        uint32_t half = width < 4 ? (uint32_t)n : (uint32_t)(n >> 32); /* a Cortex-M0 shifts no 64 bits by itself */
+        printf("%02X", (unsigned)(half >> 8 * (width % 4)) & 0xFF);
+    }
 }
 
 static void put_bytes(struct slice s) {
@@ -30,31 +25,66 @@ static struct slice front(struct slice s) {
     return (struct slice){s.bytes, s.len > 0 ? s.len - 1 : 0};
 }
 
-void list_head(void) { fputs(head, stdout); }
+#define SAY(of, name, bytes) printf(" " #name " %d", bytes);
+void list_head(void) {
+    fputs(head, stdout);
+    fputs("#   setup:", stdout);
+    SETUP_NUMBERS(SAY, )
+    fputs("\n#   expected:", stdout);
+    RESULT_NUMBERS(SAY, )
+    fputs("\n#   the reply buffer's length, the table that changes, and the byte from which on:", stdout);
+    CASE_NUMBERS(SAY, )
+    fputs("\n#   of coils, discretes, holdings, inputs each, with the byte behind its front:", stdout);
+    CASE_TABLE(SAY, )
+    printf("\n#   the length (%d bytes) of each part, list, frame, reply, changed bytes, four fronts; and the parts\n",
+           PART_LENGTH);
+}
+#undef SAY
 
+/* In capitals. */
+static void place(const char *name, int at) {
+    for (; *name != 0; name++) putchar(*name >= 'a' && *name <= 'z' ? *name - 'a' + 'A' : *name);
+    printf(" %d\n", at);
+}
+
+#define PLACE(of, name, bytes) place(#name, at), at += (bytes);
+void list_layout(void) {
+    int at = 0;
+    SETUP_NUMBERS(PLACE, )
+    RESULT_NUMBERS(PLACE, )
+    CASE_NUMBERS(PLACE, )
+    place("lent", at);
+    at = 0;
+    CASE_TABLE(PLACE, )
+    place("lent_bytes", at);
+    at = BYTES_OF(SETUP_NUMBERS) + BYTES_OF(RESULT_NUMBERS) + BYTES_OF(CASE_NUMBERS) + TABLES * at;
+    place("lengths", at);
+    place("parts", at + PARTS * PART_LENGTH);
+    place("part_list", PART_LIST);
+    place("part_frame", PART_FRAME);
+    place("part_reply", PART_REPLY);
+    place("part_changed", PART_CHANGED);
+    place("part_fronts", PART_FRONTS);
+    place("part_count", PARTS);
+}
+#undef PLACE
+
+#define PUT(of, name, bytes) put_number((of).name, bytes), putchar(' ');
 void list_case(const struct row *row, const struct asked *a, struct slice reply) {
     static uint8_t changed[1024];
-    struct slice now = {changed, bytes_of(row->now, changed)};
-    struct slice parts[4 + TABLES] = {a->list, a->frame, reply, now};
-    printf("# %u: %s, transport %d\n%02X%02X%02X %02X%02X ", ++checks, row->name, a->transport, a->transport,
-           a->unit, a->hex, (unsigned)row->outcome, (unsigned)row->code);
-    put_number(named(row->table, row->count), 1);
-    put_number(row->first, 2);
-    put_number(row->count, 2);
-    putchar(' ');
-    put_number(a->reply.len, 2);
-    printf(" %02X", (unsigned)row->table);
-    put_number(row->at, 4);
+    struct case_record r = {.setup = a->setup, .told = wanted(row, reply.len), .room = a->reply.len,
+        .changing = (uint64_t)row->table, .from = row->at, .part = {[PART_LIST] = a->list, [PART_FRAME] = a->frame,
+        [PART_REPLY] = reply, [PART_CHANGED] = {changed, bytes_of(row->now, changed)}}};
     for (int t = 0; t < TABLES; t++) {
         struct slice table = a->table[t];
-        parts[4 + t] = front(table);
-        putchar(' ');
-        put_number(table.len, 4);
-        put_number(a->cells[t], 8);
-        put_number(table.len > 0 ? table.bytes[table.len - 1] : 0, 1);
+        r.lent[t].len = table.len;
+        r.lent[t].cells = cells_of(a->setup, t);
+        r.lent[t].fill = table.len > 0 ? table.bytes[table.len - 1] : 0;
+        r.part[PART_FRONTS + t] = front(table);
     }
-    putchar(' ');
-    for (size_t i = 0; i < CASES(parts); i++) put_number(parts[i].len, 2);
-    for (size_t i = 0; i < CASES(parts); i++) put_bytes(parts[i]);
+    printf("# %u: %s, transport %d\n", ++checks, row->name, a->setup.transport);
+    CASE_HEAD(PUT, r)
+    for (size_t i = 0; i < PARTS; i++) put_number(r.part[i].len, PART_LENGTH);
+    for (size_t i = 0; i < PARTS; i++) put_bytes(r.part[i]);
     putchar('\n');
 }

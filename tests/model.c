@@ -153,7 +153,7 @@ static size_t serve(const struct asked *a, int tab, const uint8_t *b, uint8_t *r
 }
 
 static size_t wrap(const struct asked *a, const uint8_t *body, size_t n) {
-    return model_wrap(a->transport, a->frame.bytes, body, n, a->reply.bytes);
+    return model_wrap(a->setup.transport, a->frame.bytes, body, n, a->reply.bytes);
 }
 
 /* The cells that a served request writes, by the number of the function that reads their table. */
@@ -168,24 +168,23 @@ static void name_cells(result *r, const uint8_t *b) {
 result model_drive(const struct asked *a) {
     uint8_t b[256], r[256];
     size_t n = 0;
-    if (a->transport > 2 || a->hex > 1) return silent(10, 0);
+    if (a->setup.transport > 2 || a->setup.hex > 1) return silent(10, 0);
     for (int t = 0; t < TABLES; t++) {
-        int bits = t == COILS || t == DISCRETES;
-        if (a->cells[t] > 65536 || a->table[t].len < (bits ? (a->cells[t] + 7) / 8 : 2 * a->cells[t]))
-            return silent(10, 0);
+        size_t cells = cells_of(a->setup, t), bytes = t == COILS || t == DISCRETES ? (cells + 7) / 8 : 2 * cells;
+        if (cells > 65536 || a->table[t].len < bytes) return silent(10, 0);
     }
-    if (a->reply.len < (a->transport == 1 ? 511 : 260)) return silent(9, 0);
-    int wrong = model_unwrap(a->transport, a->hex, a->frame.bytes, a->frame.len, b, &n);
+    if (a->reply.len < (a->setup.transport == 1 ? 511 : 260)) return silent(9, 0);
+    int wrong = model_unwrap(a->setup.transport, a->setup.hex, a->frame.bytes, a->frame.len, b, &n);
     if (wrong) return silent(wrong, 0);
     int broadcast = a->list.len > 0 && memchr(a->list.bytes, b[0], a->list.len) != NULL;
-    if (!broadcast && b[0] != a->unit) return silent(4, 0);
+    if (!broadcast && b[0] != a->setup.unit) return silent(4, 0);
     if (b[1] >= 128) return silent(8, 0);
     int code = 0, tab = table_of(b[1]);
     if (tab < 0) code = 1;
     else if (broadcast && (b[1] <= 4 || b[1] == 23)) return silent(3, 0);
     else if (!model_length_right(b, n)) return silent(7, 0);
     else if (!model_value_right(b)) code = 3;
-    else if (!model_inside(b, a->cells[tab])) code = 2;
+    else if (!model_inside(b, cells_of(a->setup, tab))) code = 2;
     if (code && broadcast) return silent(3, code);
     result given = silent(code ? 2 : broadcast ? 1 : 0, code);
     if (code) {

@@ -7,6 +7,7 @@ Status: 0 all as the list says, 1 a difference, which is said."""
 import atexit
 import os
 import pathlib
+import re
 import socket
 import subprocess
 import sys
@@ -35,31 +36,53 @@ def with_crc(text):
     return body + crc.to_bytes(2, "little")
 
 
+def numbers(head, record):
+    """The numbers that a line of the list's head has, by name, and what is left of the record."""
+    found = {}
+    for name, width in re.findall(r" (\w+) (\d+)", head.partition(":")[2]):
+        found[name], record = int.from_bytes(record[:int(width)], "big"), record[int(width):]
+    return found, record
+
+
+def taken(heads, record):
+    """The numbers of a record, those of its four tables, and its parts."""
+    found, tables, parts = {}, [], []
+    for head in heads[:3]:
+        more, record = numbers(head, record)
+        found |= more
+    for _ in range(4):
+        more, record = numbers(heads[3], record)
+        tables.append(more)
+    lengths, record = [int.from_bytes(record[2 * p:2 * p + 2], "big") for p in range(8)], record[16:]
+    for length in lengths:
+        parts.append(record[:length])
+        record = record[length:]
+    return found, tables, parts
+
+
 def cases(path):
     """name, frame, (reply, outcome, cells named), (coils, holdings) before and after."""
-    name = ""
+    name, heads = "", []
     for line in pathlib.Path(path).read_text().splitlines():
+        if line.startswith("#   "):
+            heads.append(line)
         if line.startswith("#"):
             name = line[2:]
             continue
-        record = bytes.fromhex(line)
-        transport, unit, switch, outcome, _, table = record[:6]
-        named = table, int.from_bytes(record[6:8], "big"), int.from_bytes(record[8:10], "big")
-        changing, at = record[12], int.from_bytes(record[13:17], "big")
-        tables = [record[17 + 13 * t:30 + 13 * t] for t in range(4)]
-        sizes = [(int.from_bytes(t[:4], "big"), int.from_bytes(t[4:12], "big")) for t in tables]
-        lengths, parts, start = [int.from_bytes(record[69 + 2 * p:71 + 2 * p], "big") for p in range(8)], [], 85
-        for length in lengths:
-            parts.append(record[start:start + length])
-            start += length
-        fitting = (transport, unit, switch) == (0, 1, 0) and parts[0] == b"\0" and record[10:12] == b"\1\4"
-        if not fitting or sizes != [(COILS, 16), (0, 0), (HOLDINGS, 4), (0, 0)] or not parts[1]:
+        setup, _ = numbers(heads[0], bytes.fromhex(line))
+        found, tables, (listed, frame, reply, changed, *fronts) = taken(heads, bytes.fromhex(line))
+        sizes = [(table["len"], table["cells"]) for table in tables]
+        ours = {key: number for key, number in setup.items() if number} == {"unit": 1}  # all else is 0, as the station's
+        if not ours or listed != b"\0" or found["room"] != 260 or not frame:
             continue
-        before = [(parts[4 + t] + tables[t][12:] * HOLDINGS)[:sizes[t][0]] for t in (0, 2)]
+        if sizes != [(COILS, 16), (0, 0), (HOLDINGS, 4), (0, 0)]:
+            continue
+        before = [(fronts[t] + bytes([tables[t]["fill"]]) * HOLDINGS)[:sizes[t][0]] for t in (0, 2)]
         after = [bytearray(b) for b in before]
-        if parts[3]:
-            after[changing // 2][at:at + len(parts[3])] = parts[3]
-        yield name, parts[1], (parts[2], outcome, named), before, [bytes(a) for a in after]
+        if changed:
+            after[found["changing"] // 2][found["from"]:found["from"] + len(changed)] = changed
+        named = found["table"], found["first"], found["count"]
+        yield name, frame, (reply, found["outcome"], named), before, [bytes(a) for a in after]
 
 
 class Board:

@@ -22,4 +22,5 @@ struct layout_told layout_asked(struct layout_asked to, const uint16_t *values, 
     uint8_t *request, size_t request_len);
 uint16_t layout_kind(uint8_t a, uint16_t b);
 uint16_t layout_value(const uint16_t *values, size_t values_len, size_t at);
+uint16_t layout_byte(const uint8_t *bytes, size_t bytes_len, uint8_t at);
 uint8_t layout_put(uint16_t *values, size_t values_len, size_t at, uint16_t v);

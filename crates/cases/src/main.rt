@@ -1,26 +1,12 @@
 // Runs document 01's cases and both sides of its numbers through the driver. They are read from standard input, one
 // record a line, as the head of the list says. Every case lays its tables afresh, and compares outcome, code, the cells
 // named, the whole reply buffer and all four tables.
-use driver::Driven;
-use driver::Setup;
-use octets::byte;
-use octets::word;
+mod fields;
+
 use records::Tally;
-use records::parts::eight;
 use records::parts::lay;
 use records::parts::stands;
-use records::parts::wide;
 ghost use Prim.Native.Nat.{_≤_};
-
-// Where the descriptions of the tables stand in a record, the lengths of its parts, and the parts.
-const TABLES: usize = 17;
-
-const LENGTHS: u16 = 69;
-
-const PARTS: u16 = 85;
-
-// How many parts there are: broadcast list, frame, reply, changed bytes, and the front of each table.
-const COUNT: u8 = 8;
 
 // Room for tables of one cell more than there may be, and for every reply buffer of the list.
 const BITS: usize = 8193;
@@ -29,58 +15,10 @@ const WORDS: usize = 131074;
 
 const ROOM: usize = 1024;
 
-// The part k.
-fn part(record: &[u8], k: u8) -> &[u8] {
-    records::parts::part(record, LENGTHS, PARTS, k)
-}
-
-// Where the description of the table t stands: its length, its cells, the byte that fills it.
-fn table_at(t: u8) -> usize
-    ensures { λ r. ⌜ r ≤ 4000 ⌝ }
-{
-    TABLES + 13 * (t as usize)
-}
-
-// How many cells the table t is said to have, a number of eight bytes: document 01's limits are tried from above too.
-fn cells(record: &[u8], t: u8) -> usize {
-    eight(record, table_at(t) + 4)
-}
-
 fn lay_table(record: &[u8], t: u8, table: &mut [u8])
     requires { ⌜ t ≤ 3 ⌝ }
 {
-    lay(table, part(record, 4 + t), byte(record, table_at(t) + 12));
-}
-
-// Whether the table t is afterwards what the record says.
-fn kept(record: &[u8], t: u8, table: &[u8]) -> bool
-    requires { ⌜ t ≤ 3 ⌝ }
-{
-    let front = part(record, 4 + t);
-    let filler = byte(record, table_at(t) + 12);
-    if byte(record, 12) == t {
-        return stands(table, front, filler, wide(record, 13), part(record, 3));
-    }
-    stands(table, front, filler, 0, &record[0..0])
-}
-
-fn told(record: &[u8], got: Driven) -> bool {
-    if got.outcome != byte(record, 3) {
-        return false;
-    }
-    if got.code != byte(record, 4) {
-        return false;
-    }
-    if got.table != byte(record, 5) {
-        return false;
-    }
-    if got.first != word(record, 6) {
-        return false;
-    }
-    if got.count != word(record, 8) {
-        return false;
-    }
-    got.length == part(record, 2).len()
+    lay(table, fields::front(record, t), fields::filler(record, t));
 }
 
 // The call itself, and whether it tells what the record says.
@@ -92,26 +30,17 @@ fn called(
     inputs: &[u8],
     reply: &mut [u8],
 ) -> bool {
-    let setup = Setup {
-        transport: byte(record, 0),
-        unit: byte(record, 1),
-        hex: byte(record, 2),
-        coil_cells: cells(record, 0),
-        discrete_cells: cells(record, 1),
-        holding_cells: cells(record, 2),
-        input_cells: cells(record, 3),
-    };
     let got = dalonjang::dalonjang_drive(
-        setup,
-        part(record, 0),
+        fields::setup(record),
+        fields::list(record),
         coils,
         discretes,
         holdings,
         inputs,
-        part(record, 1),
+        fields::frame(record),
         reply,
     );
-    told(record, got)
+    fields::told(record, got)
 }
 
 // Whether every lent buffer is afterwards what the record says.
@@ -124,19 +53,19 @@ fn left(
     reply: &[u8],
     filler: u8,
 ) -> bool {
-    if !stands(reply, &record[0..0], filler, 0, part(record, 2)) {
+    if !stands(reply, &record[0..0], filler, 0, fields::reply(record)) {
         return false;
     }
-    if !kept(record, 0, coils) {
+    if !fields::kept(record, 0, coils) {
         return false;
     }
-    if !kept(record, 1, discretes) {
+    if !fields::kept(record, 1, discretes) {
         return false;
     }
-    if !kept(record, 2, holdings) {
+    if !fields::kept(record, 2, holdings) {
         return false;
     }
-    kept(record, 3, inputs)
+    fields::kept(record, 3, inputs)
 }
 
 // The case over buffers as long as the record says. Of the reply buffer every byte is `filler` before the call.
@@ -166,9 +95,9 @@ fn cut_written(
     reply: &mut [u8],
     filler: u8,
 ) -> bool {
-    let c = wide(record, table_at(0));
-    let h = wide(record, table_at(2));
-    let room = word(record, 10) as usize;
+    let c = fields::len(record, 0);
+    let h = fields::len(record, 2);
+    let room = fields::room(record);
     if coils.len() < c {
         return false;
     }
@@ -206,8 +135,8 @@ fn with_written(record: &[u8], discretes: &[u8], inputs: &[u8], filler: u8) -> b
 
 // The tables that requests only read, cut to their lengths and laid.
 fn cut_read(record: &[u8], discretes: &mut [u8], inputs: &mut [u8], filler: u8) -> bool {
-    let d = wide(record, table_at(1));
-    let i = wide(record, table_at(3));
+    let d = fields::len(record, 1);
+    let i = fields::len(record, 3);
     if discretes.len() < d {
         return false;
     }
@@ -228,7 +157,7 @@ fn with_read(record: &[u8], filler: u8) -> bool {
 // Whether all comes out as the record says. It runs twice, with two fillers: a byte written behind the reply cannot be
 // equal to both.
 fn agrees(record: &[u8]) -> bool {
-    if record.len() != records::parts::start_of(record, LENGTHS, PARTS, COUNT) {
+    if !fields::whole(record) {
         return false;
     }
     if !with_read(record, 0) {

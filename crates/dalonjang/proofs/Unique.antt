@@ -4,6 +4,7 @@ use mathlib.Core.Path.{refl, sym, ap, _∙_}
 use mathlib.Core.List.{List}
 use Prim.Native.Nat.{ℕ}
 use Rattle.modbus.proofs.Unique.{Unique, answer-paper}
+use Rattle.checks.proofs.Unique.{calc-crc16 as checks-calc-crc16}
 use Rattle.driver.specs.Driven.{Leaves}
 use Rattle.driver.proofs.Unique.{drive as driver-drive}
 use Rattle.client.proofs.Unique.{generate-get as client-generate-get, generate-set as client-generate-set, generate-mask as client-generate-mask, generate-set-get as client-generate-set-get, parse-response as client-parse-response}
@@ -17,6 +18,8 @@ use Rattle.dalonjang.proofs.dalonjang_parse_ascii_frame.Kinds as dalonj
 use Rattle.dalonjang.proofs.dalonjang_parse_ascii_frame.Reads as dalonjang-parse-ascii-frame-reads
 use Rattle.dalonjang.proofs.dalonjang_generate_ascii_frame.Kinds as dalonjang-generate-ascii-frame-kinds
 use Rattle.dalonjang.proofs.dalonjang_generate_ascii_frame.Reads as dalonjang-generate-ascii-frame-reads
+use Rattle.dalonjang.proofs.dalonjang_calc_crc16.Kinds as dalonjang-calc-crc16-kinds
+use Rattle.dalonjang.proofs.dalonjang_calc_crc16.Reads as dalonjang-calc-crc16-reads
 use Rattle.dalonjang.proofs.dalonjang_guess_request_frame_len.Kinds as dalonjang-guess-request-frame-len-kinds
 use Rattle.dalonjang.proofs.dalonjang_guess_request_frame_len.Reads as dalonjang-guess-request-frame-len-reads
 use Rattle.dalonjang.proofs.dalonjang_guess_response_frame_len.Kinds as dalonjang-guess-response-frame-len-kinds
@@ -47,6 +50,10 @@ guess-request-frame-len κs a x y u v p q = (answer-paper x y (p ∙ sym q), ref
 
 pub guess-response-frame-len : Unique 1 dalonjang-guess-response-frame-len-kinds.ps dalonjang-guess-response-frame-len-kinds.r dalonjang-guess-response-frame-len-reads.Post
 guess-response-frame-len κs a x y u v p q = (answer-paper x y (p ∙ sym q), refl)
+
+-- the contract of `checks` is this one
+pub calc-crc16 : Unique 1 dalonjang-calc-crc16-kinds.ps dalonjang-calc-crc16-kinds.r dalonjang-calc-crc16-reads.Post
+calc-crc16 = checks-calc-crc16
 
 -- the driver's contract is this one
 pub drive : Unique 7 dalonjang-drive-kinds.ps dalonjang-drive-kinds.r dalonjang-drive-reads.Post

@@ -7,8 +7,9 @@ use modbus::Answer;
 use modbus::ProtoAnswer;
 ghost use mathlib.Core.Path.{_≡_};
 ghost use mathlib.Core.List.{[]};
-ghost use lib.ListN.{length};
+ghost use lib.ListN.{length, take};
 ghost use Rattle.modbus.specs.Step.{go};
+ghost use Rattle.modbus.specs.Check.{crc};
 ghost use Rattle.modbus.specs.Request.{masks, swaps};
 ghost use Rattle.modbus.specs.Paper.{toldWith};
 ghost use Rattle.ascii.specs.Reading.{parsedUnder, generatedInto};
@@ -95,6 +96,13 @@ pub extern "C" fn dalonjang_generate_ascii_frame(data: &[u8], result: &mut [u8])
     ensures { λ r. ⌜ ((r .kind, r .value), now (result .exit)) ≡ generatedInto (now («data» .entry)) (now (result .entry)) ⌝ }
 {
     modbus::size_answer(ascii::generate_ascii_frame(data, result))
+}
+
+#[no_mangle]
+pub extern "C" fn dalonjang_calc_crc16(frame: &[u8], data_length: u8) -> u16
+    ensures { λ r. ⌜ r ≡ crc (take «data_length» (now (frame .entry))) ⌝ }
+{
+    checks::calc_crc16(frame, data_length)
 }
 
 // A request's length, or a response's, by the switch and the transport's number.

@@ -1,22 +1,6 @@
-//! A call of the driver, the answer expected, and the record that holds both. Numbers stand high byte first:
-//!
-//!     byte 0       transport
-//!     byte 1       unit
-//!     byte 2       the length of the list
-//!     byte 3       0: reply and tables are the crate's own, 1: they are document 01's, and the crate's differ
-//!     byte 4       the outcome expected
-//!     byte 5       the code expected
-//!     bytes 6-7    the length of the frame
-//!     bytes 8-9    the length of the lent reply buffer
-//!     bytes 10-11  the length of the reply expected
-//!     byte 12      1: the coils are expected to change, 2: the holdings, 0: neither
-//!     bytes 13-44  cells and slice length (4 bytes each) of coils, discretes, holdings, inputs
-//!     byte 45      the switch for lower case; under 1 the crate was given the text in capitals
-//!     byte 46      the table of which cells are expected to be named: 1 coils, 3 holdings, 0 none
-//!     bytes 47-50  the first of them, and how many
-//!     then the list, the frame, the four tables before the call, the reply expected and, where byte 12 says so, the
-//!     table as expected after it.
-//!     Before the call byte i of the lent reply buffer is (0x5A + i) % 256.
+//! A call of the driver, the answer expected, and the record that holds both: the driven of tests/record.h, whose lists
+//! have its numbers by name, in this order, high byte first. Under the switch 1 the crate was given the text in capitals.
+//! Before the call byte i of the lent reply buffer is (0x5A + i) % 256.
 use crate::record::{raised, ASCII, LENIENT, STRICT};
 use crate::tables::record::Table;
 
@@ -81,18 +65,17 @@ impl Call {
         let (left, lent) = (&answer.left, &self.tables);
         let coils = left.coils != lent[COILS].bytes;
         let holdings = left.holdings != lent[HOLDINGS].bytes;
-        let mut r = vec![self.transport, self.unit, self.list.len() as u8];
-        r.extend([u8::from(answer.difference.is_some()), answer.outcome, answer.code]);
+        let mut r = vec![self.transport, self.unit, self.hex];
+        let (table, first, count) = answer.named;
+        r.extend([answer.outcome, answer.code, table]);
+        r.extend([first, count].map(u16::to_be_bytes).concat());
+        let changing = u8::from(coils) + 2 * u8::from(holdings);
+        r.extend([u8::from(answer.difference.is_some()), changing, self.list.len() as u8]);
         r.extend([self.frame.len(), self.room, left.reply.len()].map(two).concat());
-        r.push(u8::from(coils) + 2 * u8::from(holdings));
         for table in lent {
             r.extend((table.cells as u32).to_be_bytes());
             r.extend((table.bytes.len() as u32).to_be_bytes());
         }
-        r.push(self.hex);
-        let (table, first, count) = answer.named;
-        r.push(table);
-        r.extend([first, count].map(u16::to_be_bytes).concat());
         r.extend(&self.list);
         r.extend(&self.frame);
         for table in lent {
