@@ -1,5 +1,5 @@
 # The README's commands. `make test` is what .ci/run calls; its last line is rt ci's 'N passed, 0 failed'.
-.PHONY: help test proved prove beside frame-runs driver-runs targets host-runs ask-runs package-runs peers lib measure serve ask install clean
+.PHONY: help test proved prove beside frame-runs driver-runs targets host-runs ask-runs linecount-runs package-runs peers lib measure serve ask install clean
 .NOTPARALLEL: # the runs use what rt ci has proved
 PREFIX ?= /usr/local
 
@@ -10,7 +10,7 @@ help:
 	    /^[a-z-]+:/ && said != "" { sub(":.*", ""); printf "  %-12s %s\n", $$0, said } { said = "" }' Makefile
 
 # everything; the verdict is said at the end, when the runs are through, and only then
-test: proved beside frame-runs driver-runs targets host-runs ask-runs peers package-runs
+test: proved beside frame-runs driver-runs targets host-runs ask-runs linecount-runs peers package-runs
 	@tail -n 1 out/ci.log | grep -x '[0-9]* passed, 0 failed'
 
 # every crate proved from nothing, the must-fail edits refused, the programs run
@@ -45,11 +45,16 @@ host-runs:
 ask-runs:
 	@bin/ask-runs
 
+# linecount beside a plain model, on logs in pieces of every size and on one of 4 GiB (LOGS=200 for more)
+linecount-runs:
+	@bin/linecount-runs
+
 # what is installed, the manual pages, the README's example and numbers, the first steps on a machine
 package-runs:
 	@bin/package-runs
 
-# the server and mbpoll, pymodbus and libmodbus, and the bench tool and both as servers, as far as their packages can be had
+# the server and mbpoll, pymodbus and libmodbus, linecount over what they sent, and the bench tool and both as servers, as
+# far as their packages can be had
 peers:
 	@bin/peers
 
@@ -70,7 +75,7 @@ serve:
 ask:
 	@bin/ask $(ARGS)
 
-# header, library, pkg-config file, server, bench tool and manual pages under PREFIX (/usr/local; DESTDIR for packagers)
+# header, library, pkg-config file, server, bench tool, linecount and manual pages under PREFIX (/usr/local; DESTDIR for packagers)
 install:
 	@bin/install $(PREFIX)
 

@@ -139,6 +139,20 @@ machine_library() {
     fi
 }
 
+# linecount_program: $LINECOUNT, or the program that rt makes of the sources as they stand; on another processor than x86-64 a script that runs it
+# there
+linecount_program() {
+    if [ -z "${LINECOUNT:-}" ]; then
+        prove linecount
+        LINECOUNT=$PWD/target/bin/linecount
+        if [ "$(uname -m)" != x86_64 ]; then
+            printf '#!/bin/sh\nexec "%s" "%s"\n' "$PWD/bin/x86run" "$LINECOUNT" >out/linecount
+            chmod +x out/linecount
+            LINECOUNT=$PWD/out/linecount
+        fi
+    fi
+}
+
 # machine_cc WORDS..: this machine's own compiler, for what is linked with the machine's library
 machine_cc() {
     logged cc "${CC:-gcc}" -O2 -Wall -Wextra -Werror -Iinclude "$@"

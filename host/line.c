@@ -40,6 +40,7 @@ int line_open(struct line *l, const struct station *s, const struct options *o, 
 static void lose(struct line *l, struct station *s, int64_t now) {
     log_event(s->log, l->port.name, "lost");
     complain("the serial line %s is lost; it is tried again twice a second", l->port.name);
+    raw_quiet(&l->raw, l->raw.len);
     close(l->fd);
     l->fd = -1;
     l->have = l->pieces = l->out.left = 0;
@@ -73,7 +74,11 @@ static void serve_rtu(struct line *l, size_t len, struct station *s) {
         memset(l->collector, 0, sizeof l->collector);
         dalonjang_offer(l->collector, sizeof l->collector, l->in, len);
     }
-    out->left += station_quiet(s, &l->port, l->collector, l->in, len, outbox_end(out), outbox_room(out)).length;
+    raw_quiet(&l->raw, len == l->have ? l->raw.len : len); /* of an overlong frame not all is held */
+    uint8_t *reply = outbox_end(out);
+    size_t replied = station_quiet(s, &l->port, l->collector, l->in, len, reply, outbox_room(out)).length;
+    raw_reply(reply, replied);
+    out->left += replied;
     l->have -= len;
     memmove(l->in, l->in + len, l->have);
     dalonjang_offer(l->collector, sizeof l->collector, l->in, l->have);
@@ -90,6 +95,7 @@ static void collect_rtu(struct line *l, const uint8_t *bytes, size_t len, struct
     if (l->paused) l->piece[l->pieces++] = l->have;
     l->paused = 0;
     while (l->pieces > 0 && l->have + len > RTU_MOST) serve_rtu(l, l->piece[0], s);
+    raw_hear(&l->raw, bytes, len);
     size_t held = dalonjang_offer(l->collector, sizeof l->collector, bytes, len).value;
     memcpy(l->in + l->have, bytes, held - l->have);
     l->have = held;

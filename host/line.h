@@ -3,6 +3,7 @@
 #define LINE_H
 #include "options.h"
 #include "outbox.h"
+#include "raw.h"
 #include "station.h"
 #include <poll.h>
 
@@ -22,6 +23,7 @@ struct line {
     size_t piece[MOST_PIECES], pieces; /* RTU: where in `in` bytes stand that came after a pause */
     int64_t since;          /* when the last byte came or went, or the line was lost or tried */
     struct outbox out;
+    struct raw raw; /* RTU, for the raw log */
 };
 
 /* Answers 0 after a line on standard error. */

@@ -4,6 +4,7 @@
 #include "basics.h"
 #include "line.h"
 #include "options.h"
+#include "raw.h"
 #include "station.h"
 #include "tcp.h"
 #include <signal.h>
@@ -77,6 +78,7 @@ static int begin(struct host *h, struct options *o) {
     }
     if (!open_log(h, o->log) || !fill_tables(s, o)) return 0;
     if (o->export) return 1;
+    if (o->raw != NULL && !raw_open(o->raw)) return 0;
     for (; h->lines < o->lines; h->lines++)
         if (!line_open(&h->line[h->lines], s, o, h->lines)) return 0;
     return tcp_open(&h->tcp, s, o);
@@ -126,6 +128,7 @@ static void end(struct host *h) {
 /* Whatever was said is out, if anybody takes it, and the image closed. */
 static int finish(struct host *h, int status) {
     image_close(&h->station.image);
+    raw_close();
     voice_end(&h->log);
     voice_end(&to_output);
     voice_end(&to_errors);

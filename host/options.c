@@ -67,6 +67,7 @@ static int set_mode(struct options *o, const char *value) {
 static int set_image(struct options *o, const char *value) { return (o->image = value)[0] != 0; }
 static int set_import(struct options *o, const char *value) { return (o->import = value)[0] != 0; }
 static int set_log(struct options *o, const char *value) { return (o->log = value)[0] != 0; }
+static int set_raw(struct options *o, const char *value) { return (o->raw = value)[0] != 0; }
 
 static const struct option option[] = {
     OTHER("address", "ADDRESS", "listen on this IPv4 or IPv6 address or name (127.0.0.1; 0.0.0.0 or :: is all of this\n"
@@ -100,6 +101,7 @@ static const struct option option[] = {
     OTHER("import", "FILE", "lay the rows of this text over the tables first", set_import),
     OTHER("export", NULL, "write the tables as text to standard output, and serve nothing", set_export),
     OTHER("log", "FILE", "a line for each frame; - is standard output", set_log),
+    OTHER("raw", "FILE", "what the RTU lines bring, and each reply, in records as linecount(1) counts them", set_raw),
 };
 enum { OPTIONS = sizeof option / sizeof option[0] };
 
@@ -125,6 +127,13 @@ static int can_answer(const struct options *o) {
     if (memchr(o->list, (int)o->unit, o->list_len) == NULL) return 1;
     complain("unit %zu is a broadcast number here, and a broadcast is never answered: another --unit, or --broadcast %s",
         o->unit, o->unit == 0 && o->list_len == 1 ? "none" : "without it");
+    return 0;
+}
+
+static int has_rtu(const struct options *o) {
+    for (size_t i = 0; i < o->lines; i++)
+        if (o->line[i].transport == DALONJANG_RTU) return 1;
+    complain("--raw logs RTU lines, and there is no --rtu");
     return 0;
 }
 
@@ -154,7 +163,7 @@ int options_read(struct options *o, int argc, char **argv) {
         if (value == NULL) complain("--%s wants a %s after it", option[n].name, option[n].takes);
         if (value == NULL || !take(o, &option[n], value)) return 2;
     }
-    if (!can_answer(o)) return 2;
+    if (!can_answer(o) || (o->raw != NULL && !has_rtu(o))) return 2;
     if (!o->no_tcp || o->lines > 0 || o->export) return -1;
     complain("--no-tcp leaves nothing to serve without --rtu or --ascii");
     return 2;

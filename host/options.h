@@ -18,7 +18,7 @@ struct options {
     size_t lines, baud, silence; /* silence in milliseconds; 0: as the speed asks */
     int rs485;                   /* the lines' drivers switch the direction */
     const char *mode;            /* 8E1 and the like, or NULL */
-    const char *image, *import, *log; /* or NULL */
+    const char *image, *import, *log, *raw; /* or NULL */
     int export;                  /* the tables are written as text, and nothing is served */
 };
 

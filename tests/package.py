@@ -15,6 +15,8 @@ from serving import Server, Wrong, check, same
 
 KIT = "rattle-kit-5b logic 064da1ca440f63e7"
 PROGRAMS = {}
+# rt makes programs for x86-64 alone
+COUNTS = {"bin/linecount": 0o755, "share/man/man1/linecount.1": 0o644} if os.uname().machine == "x86_64" else {}
 
 
 def text(*path):
@@ -142,7 +144,7 @@ def test_installed(root):
     same(found, {"include/dalonjang.h": 0o644, "lib/libdalonjang.a": 0o644, "lib/pkgconfig/dalonjang.pc": 0o644,
                  "bin/dalonjang-server": 0o755, "bin/dalonjang-ask": 0o755, "share/man/man3/dalonjang.3": 0o644,
                  "share/man/man1/dalonjang-server.1": 0o644, "share/man/man1/dalonjang-ask.1": 0o644,
-                 "share/doc/dalonjang/NOTICE": 0o644}, "the files")
+                 "share/doc/dalonjang/NOTICE": 0o644, **COUNTS}, "the files")
     same(text(at, "share/doc/dalonjang/NOTICE"), text(root, "NOTICE"), "the licence")
     module = text(at, "lib/pkgconfig/dalonjang.pc").replace("prefix=/opt/dalonjang", f"prefix={at}")
     values = dict(re.findall(r"^(\w+)=(.*)$", module, re.M))
@@ -173,7 +175,8 @@ def test_manual(root):
     """The pages have every option and every outcome, and groff, where it is, finds nothing wrong with them."""
     at, header = installed(root), text(root, "include/dalonjang.h")
     pages = {name: text(at, "share/man", name)
-             for name in ("man1/dalonjang-server.1", "man1/dalonjang-ask.1", "man3/dalonjang.3")}
+             for name in ("man1/dalonjang-server.1", "man1/dalonjang-ask.1", "man3/dalonjang.3",
+                          *(name[10:] for name in COUNTS if name.endswith(".1")))}
     for program in ("dalonjang-server", "dalonjang-ask"):
         page = pages[f"man1/{program}.1"].replace("\\-", "-")
         same([option for option in options(root, program) if f"\n  --{option} " not in page], [],
@@ -198,10 +201,10 @@ def test_manual(root):
 # --- the README -------------------------------------------------------------------------------------------------------
 
 def test_readme_order(root):
-    """What it is, eleven lines of C, picture, the commands, the server, asking, five files, proved and assumed, limits."""
+    """What it is, eleven lines of C, picture, the commands, the server, asking, logs, five files, proved and assumed, limits."""
     titles = re.findall(r"^## (.*)$", text(root, "README.md"), re.M)
-    same(titles[:8], ["Eleven lines of C", "One call, as a picture", "Three commands", "A server to try", "Asking",
-                      "Five files to read, in this order", "Proved, tested, assumed", "Limits"], "the sections")
+    same(titles[:9], ["Eleven lines of C", "One call, as a picture", "Three commands", "A server to try", "Asking",
+                      "A week on the line", "Five files to read, in this order", "Proved, tested, assumed", "Limits"], "the sections")
 
 
 def test_readme_paths(root):
@@ -286,6 +289,19 @@ def test_readme_server(root):
         file.flush()
         out = run(root, os.path.join(installed(root), "bin/dalonjang-server"), "--import", file.name, "--export")[0]
     check("inputs 0 17 4660 0" in out and "discretes 0 0 0 0 1 0" in out, f"what the README's text gives: {out}")
+
+
+def test_readme_linecount(root):
+    """linecount prints for document 02's record what README and manual page have; its cost is that of docs/COST.md."""
+    said = re.search(r"\| linecount\n((?:    \w.*\n)+)", text(root, "README.md"))[1].replace("\n    ", "\n")[4:]
+    if COUNTS:
+        done = subprocess.run([os.path.join(installed(root), "bin/linecount")], input=b"MB\0\3\1\2\3", capture_output=True,
+                              timeout=20, check=True)
+        same(done.stdout.decode(), said, "what linecount prints")
+    check(f"| linecount\n{said}" in text(root, "man/linecount.1"), "the manual page has another example")
+    figures = [int(figure) for figure in re.findall(r"^\| LOG \| \w+ \| (\d+) \|", text(root, "docs/COST.md"), re.M)]
+    check(len(figures) == 3 and max(figures) <= 70, f"a byte costs {figures}")
+    check(f"It takes {max(figures)} instructions a byte" in re.sub(r"\s+", " ", text(root, "README.md")), "its cost is another")
 
 
 def test_readme_cost(root):

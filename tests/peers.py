@@ -1,16 +1,18 @@
 """peers PROGRAM RUN..: real Modbus clients against the server PROGRAM of host/. A run is mbpoll:tcp, mbpoll:rtu,
 pymodbus:tcp, pymodbus:rtu, pymodbus:ascii, libmodbus:tcp or libmodbus:rtu, each client alone; or crowd:NAME,NAME.., as
-many as eight of these clients at once over TCP, beside broken streams. A line for each says what was done.
+many as eight of these clients at once over TCP, beside broken streams. A line for each says what was done; the last says
+what the program $LINECOUNT finds in the raw logs of the RTU lines: as many frames as were sent.
 Status: 0 all right, 1 something is wrong (a line says what)."""
 import contextlib
 import os
+import re
 import subprocess
 import sys
 import tempfile
 import threading
 
 from peer_plan import CELLS, IMAGE
-from serving import Client, Server, Wrong, asked, check, soon, tcp
+from serving import Client, Server, Wrong, asked, check, same, soon, tcp
 
 PYTHON = "/usr/bin/python3"
 COMMAND = {"mbpoll": [PYTHON, "tests/peer_mbpoll.py"], "pymodbus": [PYTHON, "tests/peer_pymodbus.py"],
@@ -18,6 +20,8 @@ COMMAND = {"mbpoll": [PYTHON, "tests/peer_mbpoll.py"], "pymodbus": [PYTHON, "tes
 CROWD = 8
 LIMIT = 120  # seconds for one client
 STRIDE = CELLS // CROWD
+SENT = []  # the frames and replies of RTU lines, in the order of the raw logs
+RAW = []
 
 
 def start(name, transport, where, number):
@@ -58,8 +62,14 @@ def alone(program, name, transport, text):
         if transport != "tcp":
             own, where = stack.enter_context(wire(os.path.dirname(text)))
             options += [f"--{transport}", own]
+        if transport == "rtu":
+            options += ["--raw", text + ".raw"]
         server = stack.enter_context(Server(program, *options))
         said = outcome(name, start(name, transport, where or server.port, 0))
+        if transport == "rtu":
+            SENT.extend(bytes.fromhex(part) for line in server.log() for part in re.findall(r"(?:: |reply )([0-9A-F]+)", line))
+            with open(text + ".raw", "rb") as raw:
+                RAW.append(raw.read())
         print(f"{name} over {transport.upper()}: functions {said}", flush=True)
 
 
@@ -96,6 +106,16 @@ def crowd(program, names, text):
     print(f"{CROWD} clients at once over TCP, the same each, beside {sent[0]} broken streams: all right")
 
 
+def count_raw():
+    """The raw logs one behind the other are a log: linecount finds each frame and each reply in it. Of a frame whose CRC ends
+    in 00 it takes all but that byte, since what is before it is a frame by itself."""
+    said = subprocess.run([os.environ["LINECOUNT"]], input=b"".join(RAW), capture_output=True, timeout=LIMIT, check=True).stdout
+    sent, short = len(SENT), sum(one.endswith(b"\0") for one in SENT)
+    same(said.decode(), f"records {sent}\nframes {sent}\nframe bytes {sum(map(len, SENT)) - short}\nother bytes {short}\n",
+         "what linecount says of the raw logs")
+    print(f"linecount: {sent} frames and replies over RTU by real clients, as many as were sent")
+
+
 def main():
     program, *runs = sys.argv[1:]
     for run in runs:
@@ -112,6 +132,12 @@ def main():
             except (Wrong, OSError) as fault:
                 print(f"wrong: {run}: {fault}")
                 return 1
+    if RAW and "LINECOUNT" in os.environ:
+        try:
+            count_raw()
+        except (Wrong, OSError) as fault:
+            print(f"wrong: linecount: {fault}")
+            return 1
     return 0
 
 

@@ -36,7 +36,7 @@ low-digit a b c =
     xor-step (bitXor a b) c
     ∙ ap₂ (λ (x y : ℕ). bitXor x (c / 2) * 2 + differ y (c % 2)) (xor-shr a b 1) (xor-mod a b 1)
 
-xor-swap : (a b c : ℕ) → bitXor (bitXor a b) c ≡ bitXor (bitXor a c) b
+pub xor-swap : (a b c : ℕ) → bitXor (bitXor a b) c ≡ bitXor (bitXor a c) b
 xor-swap =
     bin-ind (λ (a : ℕ). (b c : ℕ) → bitXor (bitXor a b) c ≡ bitXor (bitXor a c) b) (λ b c. xor-comm b c) (λ a ih b c.
     low-digit a b c
@@ -65,7 +65,7 @@ shifts-wait (suc n) x k =
     let e : k * 2 ^ suc n ≡ k * 2 ^ n * 2 = ap (λ (i : ℕ). k * i) (pow-suc 2 n) ∙ sym (mul-assoc k (2 ^ n) 2) in
     ap (λ (i : ℕ). shifts n (shift (bitXor x i))) e ∙ ap (shifts n) (shift-waits x (k * 2 ^ n)) ∙ shifts-wait n (shift x) k
 
-shifts-add : (m n c : ℕ) → shifts (m + n) c ≡ shifts n (shifts m c)
+pub shifts-add : (m n c : ℕ) → shifts (m + n) c ≡ shifts n (shifts m c)
 unfolding shifts
 shifts-add zero n c = ap (λ (i : ℕ). shifts i c) (zero-add n)
 shifts-add (suc m) n c = ap (λ (i : ℕ). shifts i c) (suc-add m n) ∙ shifts-add m n (shift c)

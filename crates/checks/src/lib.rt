@@ -12,7 +12,8 @@ ghost use Rattle.modbus.specs.Check.{shift, crcByte, crcFrom, crc};
 ghost use Rattle.modbus.specs.Hex.{undigit, kinded, spell, character};
 ghost use Rattle.checks.specs.Within.{lrcWithin};
 
-fn crc_shift(crc: u32) -> u32
+// The register after one bit.
+pub fn crc_shift(crc: u32) -> u32
     ensures { λ r. ⌜ r ≡ shift «crc» ⌝ }
 {
     if (crc & 0x0001) == 0 {
@@ -23,7 +24,7 @@ fn crc_shift(crc: u32) -> u32
 }
 
 // The register after one byte. The compiler turns this loop into a table of 256 entries; eight shifts written out lose that.
-fn crc_byte(crc: u32, b: u8) -> u32
+pub fn crc_byte(crc: u32, b: u8) -> u32
     ensures { λ r. ⌜ r ≡ crcByte «crc» b ⌝ }
 {
     let mut c = crc ^ (b as u32);

@@ -49,18 +49,18 @@ crc-done s n i c z inv h =
     let k : length (take n s) ≤ i = simp length-take h in
     rw drop-of-length-le at inv
 
-shift-lt : (c : ℕ) → c < 2 ^ 16 → shift c < 2 ^ 16
+pub shift-lt : (c : ℕ) → c < 2 ^ 16 → shift c < 2 ^ 16
 unfolding shift choose
 shift-lt c h =
     elim (c % 2 ≟ 1) as (λ d. choose d (bitXor (c / 2) 0xA001) (c / 2) < 2 ^ 16)
     [ yes p ↦ xor-lt 16 (c / 2) 0xA001 (omega arith) (lit< tt) | no p ↦ omega arith ]
 
-shifts-lt : (n c : ℕ) → c < 2 ^ 16 → shifts n c < 2 ^ 16
+pub shifts-lt : (n c : ℕ) → c < 2 ^ 16 → shifts n c < 2 ^ 16
 unfolding shifts
 shifts-lt zero c h = h
 shifts-lt (suc n) c h = shifts-lt n (shift c) (shift-lt c h)
 
-crcFrom-lt : (l : List ℕ) (c : ℕ) → c < 2 ^ 16 → Bytes l → crcFrom c l < 2 ^ 16
+pub crcFrom-lt : (l : List ℕ) (c : ℕ) → c < 2 ^ 16 → Bytes l → crcFrom c l < 2 ^ 16
 unfolding crcFrom crcByte
 crcFrom-lt [] c h y = h
 crcFrom-lt (b ∷ l) c h y = crcFrom-lt l _ (shifts-lt 8 _ (xor-lt 16 c b h (omega (arith, y .0)))) (y .1)

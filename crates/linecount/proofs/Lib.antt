@@ -1,0 +1,5 @@
+pub mod CrcLaws
+pub mod StartLaws
+pub mod TableLaws
+pub mod IndexLaws
+pub mod ReadingLaws

@@ -1,0 +1,4 @@
+pub mod Search
+pub mod Log
+pub mod Records
+pub mod Cases
