@@ -3,7 +3,7 @@
 -- Assumes nothing.
 use Rattle.std.specs.Prelude.{◌⊎◌, ◌≡◌, refl, ℕ, ◌≤◌}
 use Rattle.std.proofs.Common.{inl, inr, ap₂}
-use Rattle.std.proofs.Math.Logic.{Dec·and, Dec·not}
+use Rattle.std.proofs.Math.Logic.Dec
 use mathlib.Core.List.{List, [], ◌∷◌, nil≢cons, cons≢nil, head-eq_of_cons-eq, tail-eq_of_cons-eq}
 use Rattle.std.proofs.Math.Decide.{dec_le, ℕ_discrete}
 
@@ -41,7 +41,7 @@ abbrev pub ◌≟◌ : (m n : ℕ) → Dec (m ≡ n)
 ◌≟◌ m n = ℕ_discrete m n
 
 abbrev pub ◌and?◌ : {P Q : Type 0} → Dec P → Dec Q → Dec (P × Q)
-◌and?◌ p q = Dec·and p q
+◌and?◌ p q = Dec.and p q
 
 unfoldable pub ◌or?◌ : {P Q : Type 0} → Dec P → Dec Q → Dec (P ⊎ Q)
 ◌or?◌ (yes p) q = yes (inl p)
@@ -54,7 +54,7 @@ same_as? (yes p) f g = yes (f p)
 same_as? (no n) f g = no (λ q. n (g q))
 
 abbrev pub not? : {P : Type 0} → Dec P → Dec (¬ P)
-not? p = Dec·not p
+not? p = Dec.not p
 
 unfoldable pub cons? : {x y : ℕ} {l m : List ℕ} → Dec (x ≡ y) → Dec (l ≡ m) → Dec (x ∷ l ≡ y ∷ m)
 cons? (yes p) (yes q) = yes (ap₂ ◌∷◌ p q)

@@ -1,5 +1,7 @@
 // The types that every crate shares: why a call is refused, the transports, and the answers that hold a value or a refusal.
 // Their numbers in document 01 are in specs/Paper.
+#![tactic(auto)]
+
 ghost use Rattle.std.specs.Prelude.{◌≡◌};
 ghost use Rattle.modbus.specs.Step.{stop};
 ghost use Rattle.modbus.specs.declared.BitAnswer.TheVariants as bit;

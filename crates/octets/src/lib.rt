@@ -1,4 +1,6 @@
 // Small total functions on bytes: a byte outside the slice reads as 0, and a byte put outside it changes nothing.
+#![tactic(auto)]
+
 ghost use Rattle.std.specs.Prelude.{true, false, ◌≡◌, min};
 ghost use Rattle.modbus.specs.Bytes.{word_at};
 ghost use Rattle.modbus.specs.Step.{choose};
