@@ -25,7 +25,8 @@ def begun():
 
 
 def plain(name):
-    return name.replace("-", "_")
+    name = name.replace("-", "_")
+    return name[9:] if name.startswith("overflow_") else name
 
 
 def declarations(text):
@@ -94,6 +95,13 @@ class Function:
             
         if best:
             return [best[0]] + fields[len(best[1]):]
+        for i in self.chain(place):
+            arm = self.it["arms"][i]
+            for field, old, path in arm[2] if arm else []:
+                if plain(old) == steps and field.endswith("-own") and fields[: len(path)] == path:
+                    return [arm[0] + "." + field] + fields[len(path):]
+        if steps in ("args", "ranges") and fields:
+            return [step, fields[0].replace("-", "_")] + fields[1:]
         if where is None:
             return [step] + fields
         new = self.places[where][2][1]
@@ -105,8 +113,16 @@ class Function:
             if k < len(names):
                 fields[1] = names[k]
         clauses = self.it["clauses"][where]
-        if clauses and len(fields) > 1 and fields[0] in ("ensures", "requires") and fields[1].isdigit():
-            fields[1] = f"?{fields[1]}:{json.dumps(clauses)}"
+        if clauses and fields and fields[0] == "ensures" and len(clauses["fields"]) > 0:
+            named, at = clauses["fields"], 0
+            rest = fields[1:]
+            while len(named) - at > 1 and rest and rest[0] == "1":
+                rest.pop(0)
+                at += 1
+            if len(named) - at == 1:
+                fields = ["ensures", named[at]] + rest
+            elif rest and rest[0] == "0":
+                fields = ["ensures", named[at]] + rest[1:]
         return [new] + fields
 
     def turn(self, place, body):
@@ -140,7 +156,7 @@ class Function:
                         text = m[3] + text[len(kept):]
                 out.append(text)
         out.append(body[pos:])
-        return "".join(out)
+        return re.sub(r"\(not-(?:true|false) _ (c\.if-not-[\w.-]+)\)", r"\1", "".join(out))
 
     def walk(self, base, fields):
         place, step, got = base
@@ -172,7 +188,7 @@ def invariant(fn, text):
             turned[a] = f"l.initial.{name}" if ch else f"l.{name}"
         for a, name in zip(later, [n for n, ch in zip(names, changed) if ch]):
             turned[a] = f"l.{name}"
-        body = re.sub(r"(?<![\w.'-])" + NAME, lambda t: turned.get(t[0], t[0]), body)
+        body = re.sub(r"(\{" + NAME + r" =)|(?<![\w.'-])" + NAME, lambda t: t[0] if t[1] else turned.get(t[0], t[0]), body)
         return f"abbrev pub {kind}-{new} : goal.{kind}-{new}\n{unfolding}{kind}-{new} l = {body}"
     return None
 
@@ -216,7 +232,8 @@ def parts(fn, text):
             turned[new] = "-- TODO\n" + d
             continue
         rest = fn.turn(fn.at[plain(old)], body[m.end():])
-        turned[new] = f"pub {new} : goal.{new}\n{m[1]}{new}{m[2]} ={rest}"
+        given = m[2] if re.search(r"(?<![\w.'-])κs", rest) else m[2].replace(" κs", "")
+        turned[new] = f"pub {new} : goal.{new}\n{m[1]}{new}{given} ={rest}"
     return head, uses, helpers, invariants, turned
 
 
@@ -339,7 +356,7 @@ def main(argv):
     said = run(["rt", "check"], where)
     open(f"/tmp/answers-{crate}-1.txt", "w").write(said)
     left = 0
-    for m in re.finditer(r"(?m)^fn (\S+?): no proof: .*?Answers\.antt; `search` did not prove (.*)$|^fn (\S+?): no proof: (.*)$", said):
+    for m in re.finditer(r"(?m)^fn (\S+?): no proof: .*?Answers\.antt; `search` did not prove (.*?)(?:; it calls .*)?$|^fn (\S+?): no proof: (.*)$", said):
         if m[3]:
             print(f"{m[3]}: {m[4][:200]}")
             continue
@@ -359,7 +376,8 @@ def main(argv):
                 elif whole not in turned:
                     answers.append(f"pub {g} : goal.{g}\n{g} c = ?")
                     left += 1
-        answers += [t for g, t in turned.items() if g.startswith("?")]
+        if any(a.endswith(" c = ?") for a in answers):
+            answers += ["\n".join("-- " + l for l in t.split("\n")) for g, t in turned.items() if g.startswith("?")]
         write_answers(crate, f, head, uses, helpers, answers, above[f])
     said = run(["rt", "check"], where)
     open(f"/tmp/answers-{crate}-2.txt", "w").write(said)
