@@ -50,6 +50,21 @@ def declarations(text):
     return head, uses, out
 
 
+def lent():
+    """The parameters behind a &mut of each function of src/, by the function's last name."""
+    out = {}
+    for folder, _, files in os.walk("crates"):
+        for name in files:
+            if name.endswith(".rt") and "/out/" not in folder:
+                text = open(os.path.join(folder, name), encoding="utf-8").read()
+                for m in re.finditer(r"fn (\w+)(?:<[^>]*>)?\(([^)]*)\)", text):
+                    out[m[1]] = re.findall(r"(\w+): &mut", m[2])
+    return out
+
+
+LENT = lent()
+
+
 class Function:
     def __init__(self, names, crate, f):
         self.f = f
@@ -107,8 +122,8 @@ class Function:
         new = self.places[where][2][1]
         fn = self.places[where][3]
         fields = list(fields)
-        if len(fields) > 1 and fields[0] == "new" and fields[1].isdigit() and fn and fn in self.it["params"]:
-            names = self.it["params"][fn]
+        if len(fields) > 1 and fields[0] in ("new", "auto") and fields[1].isdigit() and fn:
+            names = LENT.get(fn.split("::")[-1]) or self.it["params"].get(fn, [])
             k = int(fields[1])
             if k < len(names):
                 fields[1] = names[k]

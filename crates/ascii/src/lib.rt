@@ -1,4 +1,6 @@
 // ASCII frames: text into bytes, and bytes into text.
+#![tactic(auto)]
+
 mod reading;
 mod writing;
 

@@ -1,6 +1,8 @@
 // Runs document 01's cases and both sides of its numbers through the driver. They are read from standard input, one
 // record a line, as the head of the list says. Every case lays its tables afresh, and compares outcome, code, the cells
 // named, the whole reply buffer and all four tables.
+#![tactic(auto)]
+
 mod fields;
 
 ghost use Rattle.std.specs.Prelude.{◌≤◌};

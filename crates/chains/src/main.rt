@@ -1,6 +1,8 @@
 // Replays calls of the frame (modules 5 to 7), single ones and those of whole chains, with what the crate answered and
 // left. They are read from standard input, one record a line in hexadecimal digits, as the head of calls.rt says. The
 // list beside this program is a sample; bin/frame-runs hands it longer ones.
+#![tactic(auto)]
+
 mod calls;
 mod fields;
 mod said;

@@ -1,4 +1,6 @@
 // The checks of MODBUS over serial lines, and the hexadecimal digits of its ASCII form.
+#![tactic(auto)]
+
 ghost use Rattle.std.specs.Prelude.{◌≡◌, ◌*◌, ◌/◌, ◌≤◌, length, take, drop};
 ghost use Rattle.modbus.specs.Paper.{told, told_kind, byte_paper, hex_paper};
 ghost use Rattle.modbus.specs.Check.{shift, crc_byte, crc_from, crc};

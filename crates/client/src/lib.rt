@@ -1,5 +1,7 @@
 // The asking side: requests built into a lent buffer, and replies read against the request that was sent. No state is kept between the two: the
 // request's own frame says what was asked.
+#![tactic(auto)]
+
 mod build;
 mod hear;
 mod lay;

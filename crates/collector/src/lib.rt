@@ -1,5 +1,7 @@
 // The RTU collector: bytes are offered as the UART brings them, and the quiet signal closes the frame and serves it. Its state is lent bytes: how many
 // are held, in two bytes, high first, and then the bytes held.
+#![tactic(auto)]
+
 ghost use Rattle.std.specs.Prelude.{◌≡◌, [], ◌+◌, ◌≤◌, length, take, drop};
 ghost use Rattle.modbus.specs.Paper.{told_with, size_paper};
 ghost use Rattle.driver.specs.Driven.{lending, resulting, leaving};

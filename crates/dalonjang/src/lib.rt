@@ -1,4 +1,6 @@
 // The C library: numbers and byte slices in, numbers out. A slice is a pointer, then a length; include/dalonjang.h says what each call promises.
+#![tactic(auto)]
+
 ghost use Rattle.std.specs.Prelude.{◌≡◌, [], length, take};
 ghost use Rattle.modbus.specs.Step.{go};
 ghost use Rattle.modbus.specs.Check.{crc};

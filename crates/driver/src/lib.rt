@@ -1,4 +1,6 @@
 // One call from request bytes to reply, in four stages: a frame is opened, judged, served and closed.
+#![tactic(auto)]
+
 mod close;
 mod judge;
 mod open;

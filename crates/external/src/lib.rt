@@ -1,4 +1,6 @@
 // Module 7: requests that the firmware carries out itself.
+#![tactic(auto)]
+
 mod errors;
 mod reads;
 mod writes;

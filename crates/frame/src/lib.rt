@@ -1,5 +1,7 @@
 // The crate's frame processor (document 01, modules 5 to 7): its state by value, with the request, the list of broadcast numbers, the response
 // and the tables lent to each call.
+#![tactic(auto)]
+
 pub mod changes;
 pub mod parse;
 

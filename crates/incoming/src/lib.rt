@@ -1,4 +1,6 @@
 // What the crate's parse reads of a frame's bytes before it knows what is asked, apart from the state.
+#![tactic(auto)]
+
 ghost use Rattle.std.specs.Prelude.{true, false, ◌≡◌, ◌+◌};
 ghost use Rattle.modbus.specs.Step.{choose};
 ghost use Rattle.modbus.specs.Paper.{told, size_paper, done_paper};

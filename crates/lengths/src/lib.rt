@@ -1,4 +1,6 @@
 // How long a frame will be, guessed from its first bytes.
+#![tactic(auto)]
+
 ghost use Rattle.std.specs.Prelude.{◌≡◌, List, ℕ, ◌≤◌, length, get_or, take};
 ghost use Rattle.modbus.specs.Step.{Step};
 ghost use Rattle.modbus.specs.Paper.{told, byte_paper, size_paper};

@@ -1,4 +1,6 @@
 // Counts the frames in a log of RTU traffic, which is read from standard input, and prints the totals or the log's first fault.
+#![tactic(auto)]
+
 mod count;
 mod index;
 mod reading;

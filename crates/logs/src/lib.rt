@@ -1,4 +1,6 @@
 // A log of RTU traffic: the front of what is left of it, and by `search` the frames in a record's bytes.
+#![tactic(auto)]
+
 pub mod search;
 
 ghost use Rattle.std.specs.Prelude.{◌≡◌};

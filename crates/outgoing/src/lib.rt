@@ -1,4 +1,6 @@
 // What the crate adds to a response, apart from the state of a frame.
+#![tactic(auto)]
+
 ghost use Rattle.std.specs.Prelude.{true, false, ◌≡◌, ◌∷◌, ◌≤◌, length};
 ghost use Rattle.modbus.specs.Step.{choose};
 ghost use Rattle.modbus.specs.Paper.{told, done_paper};

@@ -1,4 +1,6 @@
 // The ported calls under names of their own for C, so that the runs beside the Rust reach those that the library keeps to itself.
+#![tactic(auto)]
+
 pub mod module4;
 
 ghost use Rattle.std.specs.Prelude.{◌≡◌, take};

@@ -1,4 +1,6 @@
 // Module 6: a request carried out on the lent tables, and the end of its response.
+#![tactic(auto)]
+
 pub mod added;
 pub mod cells;
 mod reads;

@@ -1,5 +1,7 @@
 // A list of records on standard input: a record a line, in hexadecimal digits with blanks between them as you like.
 // A line that begins with # only says something. For the programs that run lists of known answers.
+#![tactic(auto)]
+
 pub mod parts;
 
 ghost use Rattle.std.specs.Prelude.{◌≡◌, ◌≤◌, true, false, length};

@@ -1,5 +1,7 @@
 // Replays a fixed list of the crate's answers, read from standard input: one record a line, in hexadecimal digits, as the head of the list
 // says. No Rust is needed for it.
+#![tactic(auto)]
+
 use modbus::{Answer, ProtoAnswer};
 use records::Tally;
 

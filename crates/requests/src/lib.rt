@@ -1,5 +1,7 @@
 // What the body of a frame asks, from its function on: document 01's faults from the function to the address, and the request as the driver
 // keeps it. No table is looked at: of each table only the number of its cells counts.
+#![tactic(auto)]
+
 ghost use Rattle.std.specs.Prelude.{true, false, ◌≡◌, ◌+◌, ◌≤◌, length, get_or};
 ghost use Rattle.modbus.specs.Step.{choose, ◌≤?◌, ◌≟◌, ◌and?◌};
 ghost use Rattle.modbus.specs.Table.{Kind, Tab, coils, discretes, holdings, inputs, kind_of, target};

@@ -1,5 +1,7 @@
 // Frames taken apart and put together, by the transport's number: from a frame to the body that it holds, and from a body to the frame
 // around it.
+#![tactic(auto)]
+
 pub mod lines;
 pub mod rtu;
 pub mod tcp;

@@ -1,0 +1,11 @@
+-- `checks::crc_two` meets its contract. The loop's invariant: the shifts that are left take the register to the result.
+-- Assumes nothing.
+use Rattle.std.proofs.Common.{◌≡◌, ◌-◌, ◌≤◌}
+use Rattle.modbus.specs.Check.{shifts, crc_byte}
+use Rattle.checks.proofs.crc_two.Given as goal
+
+abbrev pub invariant-loop : goal.invariant-loop
+invariant-loop l = (l.counter ≤ 16) × (shifts (16 - l.counter) l.c ≡ crc_byte (crc_byte l.crc l.first) l.second)
+
+abbrev pub decreases-loop : goal.decreases-loop
+decreases-loop l = 16 - l.counter

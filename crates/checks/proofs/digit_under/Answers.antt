@@ -1,0 +1,52 @@
+-- `checks::digit_under` meets its contract: what the kind of a digit comes to under the switch.
+-- Assumes nothing.
+use Rattle.std.proofs.Common.{◌≡◌, ℕ, zero, suc, sym, refl, ap, ◌∙◌, arith}
+use Rattle.modbus.specs.Step.{Step, stop, go}
+use Rattle.modbus.specs.Paper.{told, told_kind, hex_paper}
+use Rattle.modbus.specs.Hex.{undigit, kinded, spell}
+use Rattle.modbus.specs.declared.ErrorKind.{ErrorKind}
+use Rattle.modbus.specs.declared.ErrorKind.TheVariants.{FrameBroken}
+use Rattle.modbus.specs.declared.HexAnswer.{HexAnswer}
+use Rattle.modbus.proofs.HexLaws.{undigit_taken, taken}
+use Rattle.modbus.proofs.PaperLaws.{hex_value, hex_refusal}
+use Rattle.checks.proofs.digit_under.Goals as goal
+
+-- a digit of a kind
+by_kind : (h c : ℕ) (r : HexAnswer) (v kind : ℕ) → hex_paper r ≡ told_kind (kinded c) → hex_paper r ≡ (0, v, kind)
+    → undigit (spell h c) ≡ taken h (go (v, kind))
+by_kind h c r v kind e q = undigit_taken h c ∙ ap (taken h) (hex_value r (kinded c) v kind e q)
+
+-- a small letter is none under 0, and a digit under any other switch
+strict : (h v : ℕ) {m : Step ErrorKind ℕ} → h ≡ 0 → m ≡ taken h (go (v, 2)) → m ≡ stop FrameBroken
+strict zero v q e = e
+strict (suc h) v q e = absurd (omega arith)
+
+lenient : (h v : ℕ) {m : Step ErrorKind ℕ} → ¬ (h ≡ 0) → m ≡ taken h (go (v, 2)) → m ≡ go v
+lenient zero v q e = absurd (q refl)
+lenient (suc h) v q e = e
+
+pub returns-then-hex-eq0 : goal.returns-then-hex-eq0
+returns-then-hex-eq0 c =
+    let w = c in
+    sym (ap told (strict _ _ c.if-hex-eq0.true (by_kind _ c.args.c c.chr_to_hex.result _ 2 c.chr_to_hex.ensures (ap hex_paper c.in-Small.is))))
+
+pub returns-in-Number : goal.returns-in-Number
+returns-in-Number c =
+    let w = c in
+    sym (ap told (by_kind _ c.args.c c.chr_to_hex.result _ 0 c.chr_to_hex.ensures (ap hex_paper c.in-Number.is)))
+
+pub returns-in-Capital : goal.returns-in-Capital
+returns-in-Capital c =
+    let w = c in
+    sym (ap told (by_kind _ c.args.c c.chr_to_hex.result _ 1 c.chr_to_hex.ensures (ap hex_paper c.in-Capital.is)))
+
+pub returns-else-hex-eq0 : goal.returns-else-hex-eq0
+returns-else-hex-eq0 c =
+    let w = c in
+    sym (ap told (lenient _ _ c.if-hex-eq0.false (by_kind _ c.args.c c.chr_to_hex.result _ 2 c.chr_to_hex.ensures (ap hex_paper c.in-Small.is))))
+
+pub returns-in-Refused : goal.returns-in-Refused
+returns-in-Refused c =
+    let w = c in
+    let a = c.args in
+    sym (ap told (undigit_taken a.hex a.c ∙ ap (taken a.hex) (hex_refusal c.chr_to_hex.result (kinded a.c) _ c.chr_to_hex.ensures c.in-Refused.is)))

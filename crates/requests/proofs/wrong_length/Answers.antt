@@ -1,0 +1,15 @@
+-- `requests::wrong_length` meets its contract: too short for a byte count, another number than that says, and the rest.
+-- Assumes nothing.
+use mathlib.Core.Path.{sym}
+use native.Mathlib.Omega.{arith}
+use Rattle.modbus.proofs.StepLaws.{pick_yes, pick_no}
+use Rattle.requests.proofs.wrong_length.Goals as goal
+
+pub returns-then-body-at : goal.returns-then-body-at
+returns-then-body-at c = sym (pick_no _ _ _ (λ h. omega arith))
+
+pub returns-then-body-at-2 : goal.returns-then-body-at-2
+returns-then-body-at-2 c = sym (pick_no _ _ _ (λ h. c.if-body-at-2.true h.1))
+
+pub returns : goal.returns
+returns c = sym (pick_yes _ _ _ (c.if-body-at.false, c.if-body-at-2.false))
