@@ -27,7 +27,7 @@ fn stop_byte(ch: u8) -> bool
 }
 
 // What stands at a place of the text: the byte of two digits, a stop byte, or neither.
-#[derive(Drop)]
+#[derive(Clone, Copy)]
 enum Pair {
     Byte(u8),
     Stop,

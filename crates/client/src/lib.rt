@@ -21,7 +21,7 @@ use transports::{body_source, open, start_of};
 
 // Whom to ask, and how: the transaction number (TCP alone), the unit, and the transport's number (0 RTU, 1 ASCII, 2 TCP).
 #[repr(C)]
-#[derive(Drop)]
+#[derive(Clone, Copy)]
 pub struct ModbusRequest {
     pub tr_id: u16,
     pub unit_id: u8,
@@ -30,7 +30,7 @@ pub struct ModbusRequest {
 
 // What a reply says: 0 and how many values, 2 and the exception's code, or the number of a refusal.
 #[repr(C)]
-#[derive(Drop)]
+#[derive(Clone, Copy)]
 pub struct Reading {
     pub count: usize,
     pub outcome: u8,

@@ -19,14 +19,14 @@ const STATE: usize = 259;
 const MOST: usize = 257;
 
 // What a state holds.
-#[derive(Drop)]
+#[derive(Clone, Copy)]
 pub enum Held {
     Bytes(usize),
     Nothing,
 }
 
 // What a quiet signal does: nothing where nothing is held.
-#[derive(Drop)]
+#[derive(Clone, Copy)]
 pub enum Closed {
     Nothing,
     Served(Driven),

@@ -24,7 +24,7 @@ use transports::{body_source, open, start_of};
 // The setup's numbers: the transport (0 RTU, 1 ASCII, 2 TCP), our unit number on it, the switch for digits a-f of ASCII frames (0 strict, 1
 // lenient), and how many cells each table is said to have.
 #[repr(C)]
-#[derive(Drop)]
+#[derive(Clone, Copy)]
 pub struct Setup {
     pub transport: u8,
     pub unit: u8,
@@ -38,7 +38,7 @@ pub struct Setup {
 // What became of a request: the reply's length, document 01's outcome and code, and the cells that it wrote: their table, by the number of the function
 // that reads it, the first, and how many; without a write these are 0.
 #[repr(C)]
-#[derive(Drop)]
+#[derive(Clone, Copy)]
 pub struct Driven {
     pub length: usize,
     pub outcome: u8,

@@ -19,7 +19,7 @@ use writes::{not_a_write, want_coil, want_holding, want_many, write_done, write_
 
 // What the firmware reports of a request: done, one of the crate's kinds, or one of the two Modbus errors that are no
 // kind here.
-#[derive(Drop)]
+#[derive(Clone, Copy)]
 pub enum Reported {
     Done,
     Refused(ErrorKind),
@@ -28,34 +28,34 @@ pub enum Reported {
 }
 
 // Where a write's data are: a single coil's value itself, or so many bytes of the frame from a place on.
-#[derive(Drop)]
+#[derive(Clone, Copy)]
 pub enum Data {
     Value(u8),
     Place(usize, usize),
 }
 
-#[derive(Drop)]
+#[derive(Clone, Copy)]
 pub struct WriteBits {
     pub address: u16,
     pub count: u16,
     pub data: Data,
 }
 
-#[derive(Drop)]
+#[derive(Clone, Copy)]
 pub struct WriteWords {
     pub address: u16,
     pub count: u16,
     pub data: Data,
 }
 
-#[derive(Drop)]
+#[derive(Clone, Copy)]
 pub enum Write {
     Bits(WriteBits),
     Words(WriteWords),
 }
 
 // A read's data go to so many bytes of the response from a place on.
-#[derive(Drop)]
+#[derive(Clone, Copy)]
 pub struct ReadBits {
     pub address: u16,
     pub count: u16,
@@ -63,7 +63,7 @@ pub struct ReadBits {
     pub len: usize,
 }
 
-#[derive(Drop)]
+#[derive(Clone, Copy)]
 pub struct ReadWords {
     pub address: u16,
     pub count: u16,
@@ -71,31 +71,31 @@ pub struct ReadWords {
     pub len: usize,
 }
 
-#[derive(Drop)]
+#[derive(Clone, Copy)]
 pub enum Read {
     Bits(ReadBits),
     Words(ReadWords),
 }
 
-#[derive(Drop)]
+#[derive(Clone, Copy)]
 pub enum WriteAnswer {
     Value(Write),
     Refused(ErrorKind),
 }
 
-#[derive(Drop)]
+#[derive(Clone, Copy)]
 pub enum ReadAnswer {
     Value(Read),
     Refused(ErrorKind),
 }
 
-#[derive(Drop)]
+#[derive(Clone, Copy)]
 pub struct WriteLeft {
     pub answer: WriteAnswer,
     pub frame: ModbusFrame,
 }
 
-#[derive(Drop)]
+#[derive(Clone, Copy)]
 pub struct ReadLeft {
     pub answer: ReadAnswer,
     pub frame: ModbusFrame,

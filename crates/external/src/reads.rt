@@ -16,7 +16,7 @@ use process::added::add_head;
 use process::cells::{Cells, data_bytes};
 
 // Room for a read's data in the response: from a place on, where there is any.
-#[derive(Drop)]
+#[derive(Clone, Copy)]
 pub(crate) struct Room {
     pub answer: DoneAnswer,
     pub at: usize,

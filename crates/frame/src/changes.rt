@@ -6,7 +6,7 @@ ghost use Rattle.frame.specs.Changes.{changes_paper, changes_by};
 use crate::{ModbusFrame, ModbusFunction};
 
 // The cells that a request changes: the first, and how many.
-#[derive(Drop)]
+#[derive(Clone, Copy)]
 pub enum Changes {
     Coils { reg: u16, count: u16 },
     Holdings { reg: u16, count: u16 },

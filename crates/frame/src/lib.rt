@@ -10,7 +10,7 @@ ghost use Rattle.frame.specs.State.{fresh, with_func, with_error, function_paper
 
 use modbus::{DoneAnswer, ErrorKind, ModbusProto};
 
-#[derive(Drop)]
+#[derive(Clone, Copy)]
 pub enum ModbusFunction {
     GetCoils,
     GetDiscretes,
@@ -23,14 +23,14 @@ pub enum ModbusFunction {
 }
 
 // The crate's Option<ModbusErrorCode>: an exception's code, if one is set.
-#[derive(Drop)]
+#[derive(Clone, Copy)]
 pub enum ModbusError {
     Unset,
     Code(u8),
 }
 
 // The crate's fields, and how many bytes of the lent slice are the response.
-#[derive(Drop)]
+#[derive(Clone, Copy)]
 pub struct ModbusFrame {
     pub unit_id: u8,
     pub proto: ModbusProto,
@@ -47,14 +47,14 @@ pub struct ModbusFrame {
 }
 
 // What a call leaves: its answer and the state.
-#[derive(Drop)]
+#[derive(Clone, Copy)]
 pub struct Left {
     pub answer: DoneAnswer,
     pub frame: ModbusFrame,
 }
 
 // The crate's TryFrom<u8>.
-#[derive(Drop)]
+#[derive(Clone, Copy)]
 pub enum FunctionAnswer {
     Value(ModbusFunction),
     Unsupported,

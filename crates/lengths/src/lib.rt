@@ -16,7 +16,7 @@ use modbus::{ByteAnswer, ErrorKind, ModbusProto, SizeAnswer};
 use octets::word;
 
 // What a frame is: requests and responses differ only in how the first bytes tell the length of the body.
-#[derive(Drop)]
+#[derive(Clone, Copy)]
 enum Side {
     Request,
     Response,

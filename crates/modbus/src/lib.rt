@@ -8,7 +8,7 @@ ghost use Rattle.modbus.specs.declared.BitAnswer.TheVariants as bit;
 ghost use Rattle.modbus.specs.Paper.{number, told, proto_paper, proto_asked, byte_paper, size_paper, word_paper, bit_paper, done_paper};
 
 // Why a ported call is refused: the crate's kinds, as far as they are kept.
-#[derive(Drop)]
+#[derive(Clone, Copy)]
 pub enum ErrorKind {
     OOB,
     OOBContext,
@@ -19,7 +19,7 @@ pub enum ErrorKind {
     WriteCallOnReadFrame,
 }
 
-#[derive(Drop)]
+#[derive(Clone, Copy)]
 pub enum ModbusProto {
     Rtu,
     Ascii,
@@ -27,40 +27,40 @@ pub enum ModbusProto {
 }
 
 // The crate's Result<u8, ErrorKind>.
-#[derive(Drop)]
+#[derive(Clone, Copy)]
 pub enum ByteAnswer {
     Value(u8),
     Refused(ErrorKind),
 }
 
 // The same for a length in memory.
-#[derive(Drop)]
+#[derive(Clone, Copy)]
 pub enum SizeAnswer {
     Value(usize),
     Refused(ErrorKind),
 }
 
 // The crate's Result<u16, ErrorKind>, Result<bool, ErrorKind> and Result<(), ErrorKind>.
-#[derive(Drop)]
+#[derive(Clone, Copy)]
 pub enum WordAnswer {
     Value(u16),
     Refused(ErrorKind),
 }
 
-#[derive(Drop)]
+#[derive(Clone, Copy)]
 pub enum BitAnswer {
     Value(bool),
     Refused(ErrorKind),
 }
 
-#[derive(Drop)]
+#[derive(Clone, Copy)]
 pub enum DoneAnswer {
     Done,
     Refused(ErrorKind),
 }
 
 // What a hexadecimal digit stands for, by the kind of its character: 0-9, A-F or a-f.
-#[derive(Drop)]
+#[derive(Clone, Copy)]
 pub enum HexAnswer {
     Number(u8),
     Capital(u8),
@@ -69,7 +69,7 @@ pub enum HexAnswer {
 }
 
 // A transport, or document 01's BadSetup: that is none of the kinds.
-#[derive(Drop)]
+#[derive(Clone, Copy)]
 pub enum ProtoAnswer {
     Value(ModbusProto),
     BadSetup,
@@ -89,7 +89,7 @@ pub fn proto_of(number: u8) -> ProtoAnswer
 
 // An answer as C takes it: the kind is 0 where the value holds, else the refusal's number, with the value 0.
 #[repr(C)]
-#[derive(Drop)]
+#[derive(Clone, Copy)]
 pub struct Answer {
     pub value: usize,
     pub kind: u8,

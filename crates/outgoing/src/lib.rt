@@ -12,7 +12,7 @@ use checks::{calc_crc16, calc_lrc};
 use modbus::{ByteAnswer, DoneAnswer, ErrorKind, ModbusProto, SizeAnswer};
 
 // What a call that adds to a response leaves: its answer, and the response's length.
-#[derive(Drop)]
+#[derive(Clone, Copy)]
 pub struct Grown {
     pub answer: DoneAnswer,
     pub len: usize,

@@ -8,7 +8,7 @@ ghost use Rattle.process.specs.Cells.{kind_in};
 
 use modbus::{ErrorKind, SizeAnswer};
 
-#[derive(Drop)]
+#[derive(Clone, Copy)]
 pub enum Cells {
     Bits,
     Words,

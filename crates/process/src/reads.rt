@@ -15,7 +15,7 @@ use modbus::{DoneAnswer, ErrorKind, SizeAnswer};
 use tables::coils::{get_coils_as_u8, get_discretes_as_u8};
 use tables::registers::{get_holdings_as_u8, get_inputs_as_u8};
 
-#[derive(Drop)]
+#[derive(Clone, Copy)]
 pub(crate) enum Table {
     Coils,
     Discretes,

@@ -14,7 +14,7 @@ ghost use Rattle.requests.specs.declared.Verdict.TheVariants as verdict;
 use octets::word;
 
 // A read: its function tells the table.
-#[derive(Drop)]
+#[derive(Clone, Copy)]
 pub struct ReadCells {
     pub function: u8,
     pub address: u16,
@@ -22,21 +22,21 @@ pub struct ReadCells {
 }
 
 // A write: the cells that it names, and where its data stand in the body. Bits are packed into as few bytes as hold them, words have two each.
-#[derive(Drop)]
+#[derive(Clone, Copy)]
 pub struct Cells {
     pub address: u16,
     pub count: u16,
     pub at: usize,
 }
 
-#[derive(Drop)]
+#[derive(Clone, Copy)]
 pub enum Write {
     Bits(Cells),
     Words(Cells),
 }
 
 // A mask write: the register, and its two masks.
-#[derive(Drop)]
+#[derive(Clone, Copy)]
 pub struct Mask {
     pub address: u16,
     pub and_mask: u16,
@@ -44,7 +44,7 @@ pub struct Mask {
 }
 
 // A write of registers and then a read of registers. The data stand in the body from 11 on.
-#[derive(Drop)]
+#[derive(Clone, Copy)]
 pub struct Exchange {
     pub read_address: u16,
     pub read_count: u16,
@@ -53,7 +53,7 @@ pub struct Exchange {
 }
 
 // What becomes of a request: it is served, or refused with a code, or nothing is sent, with this outcome and code.
-#[derive(Drop)]
+#[derive(Clone, Copy)]
 pub enum Verdict {
     Read(ReadCells),
     Written(Write),

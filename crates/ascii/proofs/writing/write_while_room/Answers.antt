@@ -1,0 +1,66 @@
+-- `ascii::writing::write_while_room` meets its contract. The loop's invariant: what is left of the line makes the result the one asked.
+-- Assumes nothing.
+use Rattle.std.proofs.Common.{suc, ◌-◌, [], ◌∷◌, length, ap, ◌∙◌, arith}
+use lib.Bits.{and_mask}
+use Rattle.modbus.specs.Hex.{digit}
+use Rattle.octets.proofs.PutLaws.{no_room, had_room}
+use Rattle.ascii.proofs.ReadingLaws.{length_kept, rest, crlf, rest_step, rest_cut, rest_done, length_line, line_none, line_refused, line_written}
+use Rattle.ascii.proofs.writing.write_while_room.Goals as goal
+
+pub returns-then-not-put_byte : goal.returns-then-not-put_byte
+returns-then-not-put_byte c =
+    let p = c in
+    let a = c.args in
+    let f = no_room _ _ _ 0 (length a.result.now) c.put_byte.ensures c.if-not-put_byte.true in
+    line_none a.«data».now a.result.now _ f.1 f.0
+
+pub returns-then-not-put_two : goal.returns-then-not-put_two
+returns-then-not-put_two c =
+    let w = c in
+    let l = c in
+    let p = c in
+    let a = c.args in
+    let f = no_room _ _ _ (suc c.loop-i.at) (length c.loop-i.result) c.put_two.ensures c.if-not-put_two.true in
+    let e = had_room _ _ _ 0 (length a.result.now) c.put_byte.ensures c.if-not-put_byte.false in
+    line_refused a.«data».now a.result.now _ _ e.1
+    (rest_cut a.«data».now crlf _ c.loop-i.i _ _ c.loop-i.invariant.3 _ _ _ (omega arith) c.character.ensures
+    (c.character-in-loop-i.ensures ∙ ap digit (and_mask _ 4)) f.1 f.0)
+    (omega (arith, length_line a.«data».now))
+
+pub loop-i-preserved : goal.loop-i-preserved
+loop-i-preserved c =
+    let w = c in
+    let l = c in
+    let a = c.args in
+    let h = had_room _ _ _ (suc c.loop-i.at) (length c.loop-i.result) c.put_two.ensures c.if-not-put_two.false in (
+      omega arith,
+      omega arith,
+      length_kept c.loop-i.result _ c.loop-i.at (c.character.result ∷ c.character-in-loop-i.result ∷ []) h.1
+          ∙ c.loop-i.invariant.2,
+      rest_step a.«data».now crlf _ c.loop-i.i _ _ c.loop-i.invariant.3 _ _ _ (omega arith) c.character.ensures
+          (c.character-in-loop-i.ensures ∙ ap digit (and_mask _ 4)) h.1,
+    )
+
+pub returns-then-not-put_two-2 : goal.returns-then-not-put_two-2
+returns-then-not-put_two-2 c =
+    let w = c in
+    let l = c in
+    let p = c in
+    let a = c.args in
+    let f = no_room _ _ _ (suc c.loop-i.at) (length c.loop-i.result) c.put_two-2.ensures c.if-not-put_two-2.true in
+    let e = had_room _ _ _ 0 (length a.result.now) c.put_byte.ensures c.if-not-put_byte.false in
+    line_refused a.«data».now a.result.now _ _ e.1
+    (rest_done a.«data».now crlf _ c.loop-i.i _ _ c.loop-i.invariant.3 _ (omega arith) f.1)
+    (omega (arith, length_line a.«data».now))
+
+pub returns : goal.returns
+returns c =
+    let w = c in
+    let l = c in
+    let p = c in
+    let a = c.args in
+    let h = had_room _ _ _ (suc c.loop-i.at) (length c.loop-i.result) c.put_two-2.ensures c.if-not-put_two-2.false in
+    let e = had_room _ _ _ 0 (length a.result.now) c.put_byte.ensures c.if-not-put_byte.false in
+    line_written a.«data».now a.result.now _ _ e.1
+    (rest_done a.«data».now crlf _ c.loop-i.i _ _ c.loop-i.invariant.3 _ (omega arith) h.1) _
+    (omega (arith, length_line a.«data».now)) (omega arith)
