@@ -11,18 +11,18 @@ fitting n room r e q =
     picked _ _ _ (sym e ∙ q) (λ p _. p) (λ _ f. let z : ◌≡◌ {A = ℕ} 0 1 = cc in absurd (omega arith))
 
 pub write_line-requires : goal.write_line-requires
-write_line-requires c = fitting _ _ _ c.fits2.ensures c.if-not-fits.false
+write_line-requires c = fitting _ _ _ c.fits.ensures c.if-not-fits.false
 
 pub overflow_add-result : goal.overflow_add-result
 overflow_add-result c =
     let p = c in
-    omega (arith, fitting _ _ _ c.fits2.ensures c.if-not-fits.false)
+    omega (arith, fitting _ _ _ c.fits.ensures c.if-not-fits.false)
 
 pub returns : goal.returns
 returns c =
     let p = c in
     let a = c.args in
-    let k = fitting _ _ _ c.fits2.ensures c.if-not-fits.false in
-    let m = length-set a.result.now 0 58 in
-    line_written a.«data».now a.result.now (set a.result.now 0 58) _ refl c.write_line.ensures _
+    let k = fitting _ _ _ c.fits.ensures c.if-not-fits.false in
+    let m = length-set a.res.now 0 58 in
+    line_written a.«data».now a.res.now (set a.res.now 0 58) _ refl c.write_line.ensures _
     (sym (length_line a.«data».now)) (omega arith)

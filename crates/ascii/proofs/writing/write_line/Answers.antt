@@ -7,4 +7,4 @@ pub returns : goal.returns
 returns c =
     let p = c in
     let a = c.args in
-    text_ended a.«data».now a.result.now _ c.lay_text.ensures
+    text_ended a.«data».now a.res.now _ c.lay_text.ensures

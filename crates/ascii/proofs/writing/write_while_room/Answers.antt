@@ -1,6 +1,6 @@
 -- `ascii::writing::write_while_room` meets its contract. The loop's invariant: what is left of the line makes the result the one asked.
 -- Assumes nothing.
-use Rattle.std.proofs.Common.{suc, ◌-◌, [], ◌∷◌, length, ap, ◌∙◌, arith}
+use Rattle.std.proofs.Common.{not, suc, ◌-◌, [], ◌∷◌, length, ap, ◌∙◌, arith}
 use lib.Bits.{and_mask}
 use Rattle.modbus.specs.Hex.{digit}
 use Rattle.octets.proofs.PutLaws.{no_room, had_room}
@@ -11,8 +11,8 @@ pub returns-then-not-put_byte : goal.returns-then-not-put_byte
 returns-then-not-put_byte c =
     let p = c in
     let a = c.args in
-    let f = no_room _ _ _ 0 (length a.result.now) c.put_byte.ensures c.if-not-put_byte.true in
-    line_none a.«data».now a.result.now _ f.1 f.0
+    let f = no_room _ _ _ 0 (length a.res.now) c.put_byte.ensures (ap not c.if-not-put_byte.true) in
+    line_none a.«data».now a.res.now _ f.1 f.0
 
 pub returns-then-not-put_two : goal.returns-then-not-put_two
 returns-then-not-put_two c =
@@ -20,9 +20,9 @@ returns-then-not-put_two c =
     let l = c in
     let p = c in
     let a = c.args in
-    let f = no_room _ _ _ (suc c.loop-i.at) (length c.loop-i.result) c.put_two.ensures c.if-not-put_two.true in
-    let e = had_room _ _ _ 0 (length a.result.now) c.put_byte.ensures c.if-not-put_byte.false in
-    line_refused a.«data».now a.result.now _ _ e.1
+    let f = no_room _ _ _ (suc c.loop-i.at) (length c.loop-i.res) c.put_two.ensures (ap not c.if-not-put_two.true) in
+    let e = had_room _ _ _ 0 (length a.res.now) c.put_byte.ensures (ap not c.if-not-put_byte.false) in
+    line_refused a.«data».now a.res.now _ _ e.1
     (rest_cut a.«data».now crlf _ c.loop-i.i _ _ c.loop-i.invariant.3 _ _ _ (omega arith) c.character.ensures
     (c.character-in-loop-i.ensures ∙ ap digit (and_mask _ 4)) f.1 f.0)
     (omega (arith, length_line a.«data».now))
@@ -32,10 +32,10 @@ loop-i-preserved c =
     let w = c in
     let l = c in
     let a = c.args in
-    let h = had_room _ _ _ (suc c.loop-i.at) (length c.loop-i.result) c.put_two.ensures c.if-not-put_two.false in (
+    let h = had_room _ _ _ (suc c.loop-i.at) (length c.loop-i.res) c.put_two.ensures (ap not c.if-not-put_two.false) in (
       omega arith,
       omega arith,
-      length_kept c.loop-i.result _ c.loop-i.at (c.character.result ∷ c.character-in-loop-i.result ∷ []) h.1
+      length_kept c.loop-i.res _ c.loop-i.at (c.character.result ∷ c.character-in-loop-i.result ∷ []) h.1
           ∙ c.loop-i.invariant.2,
       rest_step a.«data».now crlf _ c.loop-i.i _ _ c.loop-i.invariant.3 _ _ _ (omega arith) c.character.ensures
           (c.character-in-loop-i.ensures ∙ ap digit (and_mask _ 4)) h.1,
@@ -47,9 +47,9 @@ returns-then-not-put_two-2 c =
     let l = c in
     let p = c in
     let a = c.args in
-    let f = no_room _ _ _ (suc c.loop-i.at) (length c.loop-i.result) c.put_two-2.ensures c.if-not-put_two-2.true in
-    let e = had_room _ _ _ 0 (length a.result.now) c.put_byte.ensures c.if-not-put_byte.false in
-    line_refused a.«data».now a.result.now _ _ e.1
+    let f = no_room _ _ _ (suc c.loop-i.at) (length c.loop-i.res) c.put_two-2.ensures (ap not c.if-not-put_two-2.true) in
+    let e = had_room _ _ _ 0 (length a.res.now) c.put_byte.ensures (ap not c.if-not-put_byte.false) in
+    line_refused a.«data».now a.res.now _ _ e.1
     (rest_done a.«data».now crlf _ c.loop-i.i _ _ c.loop-i.invariant.3 _ (omega arith) f.1)
     (omega (arith, length_line a.«data».now))
 
@@ -59,8 +59,8 @@ returns c =
     let l = c in
     let p = c in
     let a = c.args in
-    let h = had_room _ _ _ (suc c.loop-i.at) (length c.loop-i.result) c.put_two-2.ensures c.if-not-put_two-2.false in
-    let e = had_room _ _ _ 0 (length a.result.now) c.put_byte.ensures c.if-not-put_byte.false in
-    line_written a.«data».now a.result.now _ _ e.1
+    let h = had_room _ _ _ (suc c.loop-i.at) (length c.loop-i.res) c.put_two-2.ensures (ap not c.if-not-put_two-2.false) in
+    let e = had_room _ _ _ 0 (length a.res.now) c.put_byte.ensures (ap not c.if-not-put_byte.false) in
+    line_written a.«data».now a.res.now _ _ e.1
     (rest_done a.«data».now crlf _ c.loop-i.i _ _ c.loop-i.invariant.3 _ (omega arith) h.1) _
     (omega (arith, length_line a.«data».now)) (omega arith)
