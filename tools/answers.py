@@ -88,11 +88,13 @@ class Function:
             place = self.places[i][1]
 
     def up(self, place):
-        return self.places[self.index[place]][1]
+        return self.places[self.index[place]][1] or place
 
     def resolve(self, place, step, fields):
         """The new path of STEP.FIELDS as seen from a place."""
         steps = plain(step)
+        if not any(plain(self.places[i][2][0]) == steps for i in self.chain(place)):
+            place = self.origin  # the older kit had more steps on the way up
         where = None
         for i in self.chain(place):
             if plain(self.places[i][2][0]) == steps:
@@ -142,6 +144,7 @@ class Function:
 
     def turn(self, place, body):
         """The body of an answer at a place."""
+        self.origin = place
         bound = {"c": (place, None, [])}
         out, pos = [], 0
         pattern = re.compile(r"let (" + NAME + r") = (" + NAME + r"(?:\.[\w'-]+)*) in|(?<![\w.'-])(" + NAME + r")((?:\.[\w'-]+)+)")
