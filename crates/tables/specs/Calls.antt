@@ -46,10 +46,10 @@ abbrev pub named_in : Bor (List ℕ) → ℕ → ℕ → ℕ → List ℕ × (�
 named_in t cells reg count =
     choose (reg + count ≤? size registers t.now cells)
     (take (2 * count) (drop (2 * reg) t.now), (t.ref_ptr.0, 2 * reg + t.ref_ptr.1))
-    ([], (t.ptr.0, 0 + t.ptr.1))
+    ([], (t.ref_ptr.0, 0 + t.ref_ptr.1))
 
 -- function 3 names the holdings, 4 the inputs; any other names nothing
 unfoldable pub named : Bor (List ℕ) → ℕ → Bor (List ℕ) → ℕ → ℕ → ℕ → ℕ → List ℕ × (ℕ × ℕ)
 named holdings holding_cells inputs input_cells function reg count =
     choose (function ≟ 3) (named_in holdings holding_cells reg count)
-    (choose (function ≟ 4) (named_in inputs input_cells reg count) ([], (holdings.ptr.0, 0 + holdings.ptr.1)))
+    (choose (function ≟ 4) (named_in inputs input_cells reg count) ([], (holdings.ref_ptr.0, 0 + holdings.ref_ptr.1)))

@@ -1,9 +1,7 @@
 -- `tables::coils::copy_whole` meets its contract. The loop's invariant: the bytes that are left take dst to the result.
 -- Assumes nothing.
-use Prim.Native.Nat.{◌-◌}
 use native.Mathlib.Omega.{arith}
-use lib.ListN.{length, length-set}
-use Rattle.modbus.specs.Bytes.{pack}
+use lib.ListN.{length-set}
 use Rattle.modbus.specs.Storage.{coil_at}
 use Rattle.modbus.proofs.BytesLaws.{bytes_by}
 use Rattle.tables.proofs.EightLaws.{eight_read}
@@ -14,7 +12,7 @@ pub loop-i-preserved : goal.loop-i-preserved
 loop-i-preserved c =
     let l = c in
     let a = c.args in
-    let y = bytes_by a.src.now (λ i. omega (arith, c.shared_slice_known-in-loop-i-2-1.given i)) in (
+    let y = bytes_by a.src.now (λ i. omega (arith, c.type_inv.src i)) in (
       omega arith,
       simp length-set (omega arith),
       pack_step (coil_at a.src.now) c.loop-i.dst a.at a.from a.n c.loop-i.i c.window.result _ c.loop-i.invariant.2

@@ -4,6 +4,7 @@ use mathlib.Core.Path.{◌≡◌}
 use mathlib.Core.List.{List}
 use Prim.Native.Nat.{ℕ, ◌≤◌}
 use native.Mathlib.Omega.{arith}
+use borrow.Author.Rules.{rules}
 use Rattle.modbus.specs.Table.{part}
 use Rattle.modbus.specs.Storage.{coil_at, packed, store}
 use Rattle.modbus.proofs.BytesLaws.{bytes_by}
@@ -23,6 +24,6 @@ returns c =
     let a = c.args in
     let f = coil_at a.src.now in
     store_masked a.dst.now a.at a.n c.run_at.result (part f a.from a.n)
-    (bytes_by a.dst.now (λ i. omega (arith, c.slice_known-2-1.given i)))
+    (bytes_by a.dst.now (search rules))
     (part_all f (λ v. v ≤ 1) a.from a.n (coil_bit a.src.now))
     (omega (arith, c.if-n-eq0.false)) (omega arith) (length_part f a.from a.n) c.run_at.ensures

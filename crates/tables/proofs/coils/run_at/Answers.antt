@@ -10,5 +10,5 @@ pub returns : goal.returns
 returns c =
     let a = c.args in
     run_masked a.src.now a.from ((a.from + a.n - 1) / 8) a.n c.window-bits.result
-    (bytes_by a.src.now (λ i. omega (arith, c.shared_slice_known-3-1.given i)))
+    (bytes_by a.src.now (λ i. omega (arith, c.type_inv.src i)))
     (omega arith) (λ i h k. omega arith) c.window-bits.ensures

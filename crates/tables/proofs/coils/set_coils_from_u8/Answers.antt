@@ -17,5 +17,5 @@ returns-then-values-n c = sym (ap (told_with _) (stored_unmatched packed _ _ _ _
 
 pub returns : goal.returns
 returns c =
-    ap (λ (l : List ℕ). ((0, 0), l)) c.put_all_lem.ensures
+    ap (λ (l : List ℕ). ((0, 0), l)) c.put_all.ensures
     ∙ sym (ap (told_with _) (stored_inside packed _ _ _ _ _ (omega arith) c.if-values-n.false))

@@ -23,7 +23,7 @@ returns c =
     let k : 2 * (a.reg + a.count) - 2 * a.reg ≡ 2 * a.count = omega arith in
     let d = take (2 * a.count) (drop (2 * a.reg) a.table.now) in
     let n : length d ≡ 2 * a.count = simp (length-take, length-drop) (omega arith) in
-    let b : (i : ℕ) → get_or a.table.now i 0 < 256 = λ i. omega (arith, c.shared_slice_known-1.given i) in
+    let b : (i : ℕ) → get_or a.table.now i 0 < 256 = λ i. omega (arith, c.type_inv.table i) in
     let e = shown_bytes a.table.now a.reg a.count (omega arith) b in
     (rw k at c.extend.ensures)
     ∙ sym (ap (told_with _) (added_extends registers _ _ _ _ _ _ d (omega arith) (omega arith) n e))

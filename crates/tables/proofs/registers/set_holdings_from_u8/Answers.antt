@@ -39,7 +39,7 @@ unfolding stored_whole
 returns c =
     let s = c in
     let a = c.args in
-    let b : (i : ℕ) → get_or a.values.now i 0 < 256 = λ i. omega (arith, c.shared-slice-known.given i) in
+    let b : (i : ℕ) → get_or a.values.now i 0 < 256 = λ i. omega (arith, c.type_inv.values i) in
     let e = stored_bytes a.table.now a.reg (length a.values.now / 2) a.values.now (omega arith) b in
     let p = c.extend in
     let part = take (length a.table.now - 2 * a.reg) (drop (2 * a.reg) a.table.now) in
