@@ -133,9 +133,6 @@ def main(argv):
                 bad += 1
         lines = []
         for line in text.split("\n"):
-            if path.endswith(".rt") and not re.search(r"ghost|requires|ensures|≡|→|λ|[{×⊎∷]|unfolding|using", line):
-                lines.append(line)
-                continue
             parts = re.split(r'("[^"]*")', line) if path.endswith(".rt") else [line]
             parts = [p if p.startswith('"') else re.sub(r"(?<![\w'])" + TOKEN, lambda m: turn.get(m[0], m[0]), p) for p in parts]
             lines.append("".join(parts))

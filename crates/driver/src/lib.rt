@@ -66,7 +66,7 @@ fn handle(
     requires sized { Sized (lent_in setup coils.old discretes.now holdings.old inputs.now) }
     ensures { leaving result reply.new coils.new holdings.new ≡ handled (lending setup list.now
         coils.old discretes.now holdings.old inputs.now frame.now reply.old)
-        (tag_of (protoOf setup.transport) (get_or frame.now 0 0) (get_or frame.now 1 0)) body.now }
+        (tag_of (proto_of setup.transport) (get_or frame.now 0 0) (get_or frame.now 1 0)) body.now }
 {
     let broadcast = listed(list, body[0]);
     let verdict = judge(setup, broadcast, body);

@@ -208,7 +208,7 @@ pub(crate) fn serve(
     requires ready { Ready (lent_in setup coils.old discretes.now holdings.old inputs.now) body.now v × (start + 253 ≤ length reply.old) }
     requires sized { Sized (lent_in setup coils.old discretes.now holdings.old inputs.now) }
     ensures { laying result reply.new coils.new holdings.new ≡ laid start reply.old
-        (serving (lentIn setup coils.old discretes.now holdings.old inputs.now) broadcast body.now v) }
+        (serving (lent_in setup coils.old discretes.now holdings.old inputs.now) broadcast body.now v) }
 {
     match v {
         Verdict::Read(q) => read(

@@ -11,7 +11,7 @@ use modbus::{ErrorKind, ModbusProto, SizeAnswer};
 // nothing.
 pub(crate) fn set_code(frame: ModbusFrame, code: u8, response: &mut [u8]) -> Left
     ensures { left_paper result response.new ≡
-        errorSet frame.error code frame response.old }
+        error_set frame.error code frame response.old }
 {
     let error = frame.error;
     match error {

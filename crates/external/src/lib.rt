@@ -116,7 +116,7 @@ pub fn set_modbus_error_if_unset(frame: ModbusFrame, err: Reported, response: &m
 
 pub fn process_external_read(frame: ModbusFrame, read_result: Reported, response: &mut [u8]) -> Left
     ensures { left_paper result response.new ≡
-        externalReadProcessed read_result frame response.old }
+        external_read_processed read_result frame response.old }
 {
     if response.len() < frame.response_len {
         return frame.refused(ErrorKind::OOB);
@@ -134,7 +134,7 @@ pub fn process_external_write(
     response: &mut [u8],
 ) -> Left
     ensures { left_paper result response.new ≡
-        externalWriteProcessed write_result frame buf.now response.old }
+        external_write_processed write_result frame buf.now response.old }
 {
     if response.len() < frame.response_len {
         return frame.refused(ErrorKind::OOB);
@@ -148,7 +148,7 @@ pub fn process_external_write(
 // The response up to its data, and room for them.
 pub fn get_external_read(frame: ModbusFrame, buf: &[u8], response: &mut [u8]) -> ReadLeft
     ensures { read_described result response.new ≡
-        externalRead frame buf.now response.old }
+        external_read frame buf.now response.old }
 {
     if response.len() < frame.response_len {
         return refuse_read(ErrorKind::OOB, frame);
@@ -168,7 +168,7 @@ pub fn get_external_read(frame: ModbusFrame, buf: &[u8], response: &mut [u8]) ->
 
 pub fn get_external_write(frame: ModbusFrame, buf: &[u8], response: &mut [u8]) -> WriteLeft
     ensures { write_described result response.new ≡
-        externalWrite frame buf.now response.old }
+        external_write frame buf.now response.old }
 {
     if response.len() < frame.response_len {
         return write_left(WriteAnswer::Refused(ErrorKind::OOB), frame);

@@ -34,7 +34,7 @@ pub(crate) fn refuse_read(kind: ErrorKind, frame: ModbusFrame) -> ReadLeft
 
 pub(crate) fn want(frame: ModbusFrame, buf: &[u8], of: Cells, response: &mut [u8]) -> ReadLeft
     ensures { read_described result response.new ≡
-        wanted (kindIn of) frame buf.now response.old }
+        wanted (kind_in of) frame buf.now response.old }
 {
     let bytes = data_bytes(of, frame.count);
     let room = make_room(frame, buf, bytes, response);
@@ -75,7 +75,7 @@ fn make_room(frame: ModbusFrame, buf: &[u8], bytes: u16, response: &mut [u8]) ->
     ensures { room_paper result response.new ≡
         roomed bytes frame
         (head frame.proto buf.now frame.frame_start bytes
-        (responseOf frame response.old)) }
+        (response_of frame response.old)) }
 {
     let h = add_head(frame, buf, bytes, response);
     let mut s = frame;
@@ -99,7 +99,7 @@ fn no_room(frame: ModbusFrame, kind: ErrorKind) -> Room
 
 fn add_room(frame: ModbusFrame, bytes: u16, response: &mut [u8]) -> Room
     ensures { room_paper result response.new ≡
-        roomSized frame (responseOf frame response.old)
+        room_sized frame (response_of frame response.old)
         (resized response.old frame.response_len (frame.response_len + bytes) 0) }
 {
     let at = frame.response_len;

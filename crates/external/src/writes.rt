@@ -51,7 +51,7 @@ fn write_of(of: Cells, address: u16, count: u16, data: Data) -> Write
 
 pub(crate) fn want_coil(frame: ModbusFrame, buf: &[u8], response: &mut [u8]) -> WriteLeft
     ensures { write_described result response.new ≡
-        coilDescribed frame buf.now response.old }
+        coil_described frame buf.now response.old }
 {
     let start = frame.frame_start;
     match index(buf, start, 4, 6) {
@@ -71,7 +71,7 @@ pub(crate) fn want_coil(frame: ModbusFrame, buf: &[u8], response: &mut [u8]) -> 
 // The error of a value is set, where that has room.
 fn refuse_value(frame: ModbusFrame, response: &mut [u8]) -> WriteLeft
     ensures { write_described result response.new ≡
-        valueRefused (errorSet frame.error 3 frame response.old) }
+        value_refused (error_set frame.error 3 frame response.old) }
 {
     let l = set_code(frame, 3, response);
     let s = l.frame;
@@ -137,7 +137,7 @@ fn index(buf: &[u8], start: usize, first: usize, end: usize) -> DoneAnswer
 
 pub(crate) fn write_done(frame: ModbusFrame, buf: &[u8], response: &mut [u8]) -> Left
     ensures { left_paper result response.new ≡
-        writeDone (portedOf frame.func) frame buf.now response.old }
+        write_done (ported_of frame.func) frame buf.now response.old }
 {
     let f = frame.func;
     match f {

@@ -12,7 +12,7 @@ use outgoing::Grown;
 pub fn add_head(frame: ModbusFrame, buf: &[u8], bytes: u16, response: &mut [u8]) -> Grown
     ensures { grown_paper result response.new ≡ growth
         (head frame.proto buf.now frame.frame_start bytes
-        (responseOf frame response.old)) }
+        (response_of frame response.old)) }
 {
     let proto = frame.proto;
     outgoing::head(
@@ -28,7 +28,7 @@ pub fn add_head(frame: ModbusFrame, buf: &[u8], bytes: u16, response: &mut [u8])
 // A write's response.
 pub fn add_echo(frame: ModbusFrame, buf: &[u8], response: &mut [u8]) -> Left
     ensures { left_paper result response.new ≡
-        writeEchoed frame buf.now response.old }
+        write_echoed frame buf.now response.old }
 {
     let proto = frame.proto;
     resume(

@@ -76,7 +76,7 @@ pub fn process_write(
     response: &mut [u8],
 ) -> Left
     ensures { wrote (left_paper result response.new) coils.new holdings.new ≡
-        writeProcessed frame buf.now coils.old coil_cells
+        write_processed frame buf.now coils.old coil_cells
         holdings.old holding_cells response.old }
 {
     if response.len() < frame.response_len {

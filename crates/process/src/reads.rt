@@ -32,7 +32,7 @@ pub(crate) fn read(
     response: &mut [u8],
 ) -> Left
     ensures { left_paper result response.new ≡
-        tableRead (storage (tabBy t)) table.now cells frame buf.now response.old }
+        table_read (storage (tab_by t)) table.now cells frame buf.now response.old }
 {
     let h = add_head(frame, buf, data_bytes(cells_of(t), frame.count), response);
     let mut s = frame;
@@ -68,7 +68,7 @@ fn get_cells(
     len: usize,
 ) -> SizeAnswer
     ensures { (size_paper result, response.new) ≡ told_with response.old
-        (added (storage (tabBy t)) table.now cells reg count response.old len) }
+        (added (storage (tab_by t)) table.now cells reg count response.old len) }
 {
     match t {
         Table::Coils => get_coils_as_u8(table, cells, reg, count, response, len),

@@ -27,7 +27,7 @@ pub(crate) fn write_one(
     response: &mut [u8],
 ) -> Left
     ensures { (left_paper result response.new, table.new) ≡
-        oneWritten (kindIn of) table.old cells frame buf.now response.old }
+        one_written (kind_in of) table.old cells frame buf.now response.old }
 {
     let start = frame.frame_start;
     match reach(buf, start, 6) {
@@ -50,7 +50,7 @@ pub(crate) fn write_one(
 fn set_one(of: Cells, table: &mut [u8], cells: usize, reg: u16, value: u16) -> DoneAnswer
     requires { Legal (kind_in of) value }
     ensures { (done_paper result, table.new) ≡ told_with table.old
-        (changed (storage (target (kindIn of))) table.old cells reg (value_of (kindIn of) value)) }
+        (changed (storage (target (kind_in of))) table.old cells reg (value_of (kind_in of) value)) }
 {
     match of {
         Cells::Bits => set_coil(table, cells, reg, value == 0xff00),
@@ -67,7 +67,7 @@ pub(crate) fn write_many(
     response: &mut [u8],
 ) -> Left
     ensures { (left_paper result response.new, table.new) ≡
-        manyWritten (kindIn of) table.old cells frame buf.now response.old }
+        many_written (kind_in of) table.old cells frame buf.now response.old }
 {
     match data_held(buf, frame.frame_start) {
         SizeAnswer::Refused(k) => frame.refused(k),
@@ -92,7 +92,7 @@ fn set_many(
     values: &[u8],
 ) -> DoneAnswer
     ensures { (done_paper result, table.new) ≡ told_with table.old
-        (storedMany (kindIn of) table.old cells frame values.now) }
+        (stored_many (kind_in of) table.old cells frame values.now) }
 {
     match of {
         Cells::Bits => set_coils_from_u8(table, cells, frame.reg, frame.count, values),
@@ -103,7 +103,7 @@ fn set_many(
 // The response to a write that a table call did or refused.
 fn confirm(frame: ModbusFrame, answer: DoneAnswer, buf: &[u8], response: &mut [u8]) -> Left
     ensures { left_paper result response.new ≡
-        confirmedBy frame buf.now response.old answer }
+        confirmed_by frame buf.now response.old answer }
 {
     match answer {
         DoneAnswer::Refused(_) => frame.with_error(2).done(),
