@@ -50,21 +50,6 @@ def declarations(text):
     return head, uses, out
 
 
-def lent():
-    """The parameters behind a &mut of each function of src/, by the function's last name."""
-    out = {}
-    for folder, _, files in os.walk("crates"):
-        for name in files:
-            if name.endswith(".rt") and "/out/" not in folder:
-                text = open(os.path.join(folder, name), encoding="utf-8").read()
-                for m in re.finditer(r"fn (\w+)(?:<[^>]*>)?\(([^)]*)\)", text):
-                    out[m[1]] = re.findall(r"(\w+): &mut", m[2])
-    return out
-
-
-LENT = lent()
-
-
 class Function:
     def __init__(self, names, crate, f):
         self.f = f
@@ -117,6 +102,14 @@ class Function:
             for field, old, path in arm[2] if arm else []:
                 if plain(old) == steps and field.endswith("-own") and fields[: len(path)] == path:
                     return [arm[0] + "." + field] + fields[len(path):]
+        pre = (self.it["pre"] or {}).get("fields", [])
+        if steps == "requires" and pre and fields:
+            if len(pre) == 1:
+                return [step, pre[0]] + fields
+            k = 0
+            while k < len(pre) - 1 and k < len(fields) and fields[k] == "1":
+                k += 1
+            return [step, pre[k]] + fields[k + (k < len(pre) - 1):]
         if steps in ("args", "ranges") and fields:
             return [step, fields[0].replace("-", "_")] + fields[1:]
         if where is None:
@@ -124,11 +117,13 @@ class Function:
         new = self.places[where][2][1]
         fn = self.places[where][3]
         fields = list(fields)
-        if len(fields) > 1 and fields[0] in ("new", "auto") and fields[1].isdigit() and fn:
-            names = LENT.get(fn.split("::")[-1]) or self.it["params"].get(fn, [])
-            k = int(fields[1])
-            if k < len(names):
-                fields[1] = names[k]
+        if len(fields) > 1 and fields[0] in ("new", "auto") and fields[1] in ("0", "1") and fn in self.it["params"]:
+            k, at = 0, 1
+            while at < len(fields) and fields[at] == "1":
+                k, at = k + 1, at + 1
+            names = self.it["params"][fn]
+            if at < len(fields) and fields[at] == "0" and k < len(names):
+                fields[1:at + 1] = [names[k]]
         clauses = self.it["clauses"][where]
         if clauses and fields and fields[0] == "ensures" and len(clauses["fields"]) > 0:
             named, at = clauses["fields"], 0
