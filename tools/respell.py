@@ -56,7 +56,7 @@ def own(path, text):
         if line.lstrip().startswith("--") or line.startswith("use "):
             continue
         it = SIGNATURE.match(line)
-        if not it or len(it[1]) > 4:
+        if not it or (len(it[1]) > 4 and "pub " not in it[2]):
             continue
         said = line[it.end():].strip() or (lines[at + 1].strip() if at + 1 < len(lines) else "")
         words = it[3].split(" ")

@@ -14,7 +14,7 @@ use Rattle.modbus.specs.Frame.{Framed}
 use Rattle.modbus.specs.Decode.{Message, unit_of, number_of, unwrap, asked}
 use Rattle.modbus.specs.Drive.{Inside}
 use Rattle.modbus.proofs.StepLaws.{follow, bound}
-use Rattle.modbus.proofs.WeighLaws.{weigh-goes, went}
+use Rattle.modbus.proofs.WeighLaws.{weigh_goes, went}
 use Rattle.modbus.proofs.RequestLaws.{asked_says, says_heard}
 use Rattle.modbus.proofs.FrameLaws.{sound, complete}
 use Rattle.demands.specs.Demand.{Request}
@@ -60,7 +60,7 @@ says_sent n f q h =
     let k = says_heard q.ask q.unit l h.permitted encodes in
     let m = message_of n f q h in
     follow _ _ (or_go _ (complete (proto_of n) q.tag (q.unit ∷ l) f framed))
-    ∙ follow _ _ (weigh-goes _ _ (every_cell n) _ m.body (fn_of q.ask) k.number (λ b. b.0) k.lengthy k.valued
+    ∙ follow _ _ (weigh_goes _ _ (every_cell n) _ m.body (fn_of q.ask) k.number (λ b. b.0) k.lengthy k.valued
     (subst (Inside (every_cell n)) (sym k.asks) h.inside))
     ∙ ap (λ (x : Ask). go (m, x)) k.asks
 

@@ -26,8 +26,8 @@ use Rattle.process.specs.Process.{Legal, value_of, stored_many, wrote, wrote_to}
 use Rattle.chain.specs.Chain.{Chained, chained_to, from_processed, from_wrote, with_tables, from_parsed, chained, spoken}
 use Rattle.chain.proofs.Response.{Bears, header, closed}
 use Rattle.chain.proofs.Laid.{Laid, Good, byte_laid, word_laid, front_laid, rest_laid}
-use Rattle.chain.proofs.Parsed.{ready, answers, lead, Heard, standing, parsed-read, parsed_one, parsed_many}
-use Rattle.chain.proofs.Processed.{table, cells, octets_most, read-leaves, one-leaves, many-leaves}
+use Rattle.chain.proofs.Parsed.{ready, answers, lead, Heard, standing, parsed_read, parsed_one, parsed_many}
+use Rattle.chain.proofs.Processed.{table, cells, octets_most, read_leaves, one_leaves, many_leaves}
 use Rattle.chain.proofs.Finished.{response_ends}
 
 -- the coils and the holdings after a write that stored m
@@ -73,7 +73,7 @@ module _ {p : ModbusProto} {tag body buf : List ℕ} {start : ℕ}
       let k = octets S.kind (word_at body 4) in
       let d = shown S.kind (part (S.cell (table_of l t)) (word_at body 2) (word_at body 4)) in
       let (q, e, s) =
-      read-leaves unit buf l (standing h heard) t (word_at body 2) (word_at body 4) most
+      read_leaves unit buf l (standing h heard) t (word_at body 2) (word_at body 4) most
       (omega (arith, h.whole)) ok inside in
       let m : length d ≡ k = length_shown S.kind _
       ∙ ap (octets S.kind) (length_part (S.cell (table_of l t)) (word_at body 2) (word_at body 4)) in
@@ -85,7 +85,7 @@ module _ {p : ModbusProto} {tag body buf : List ℕ} {start : ℕ}
       ∙ joined (parse.header broadcast p buf ++ length_field p (k + 3)) (get_or body 0 0) (get_or body 1 0) k d
       ∙ ap₂ (λ (x : List ℕ) (y : ℕ). x ++ length_field p y ++ fetched t)
       (ap (λ (x : Bool). parse.header x p buf) b ∙ h.led) z in
-      ap (λ (x : After). from_parsed x buf l) (parsed-read h heard t c g b n most)
+      ap (λ (x : After). from_parsed x buf l) (parsed_read h heard t c g b n most)
       ∙ ap (λ (x : After). with_tables (wrote x l.coil_bytes l.holding_bytes) (from_processed x)) e
       ∙ response_ends p unit true (reads t) start _ _ (length out) tag (fetched t) l.coil_bytes l.holding_bytes q
       (subst (λ (x : List ℕ). Bears (length out) x q) w s) h.tagged (omega arith) heard.room
@@ -137,7 +137,7 @@ module _ {p : ModbusProto} {tag body buf : List ℕ} {start : ℕ}
   chain_one g k c n legal ok inside =
       let m = (storage (target k)).put (table k l) (word_at body 2) (value_of k (word_at body 4)) in
       let (q, e, s) =
-      one-leaves unit buf l (standing h heard) k broadcast (word_at body 2) 1 (omega (arith, h.whole)) (word_at body 4)
+      one_leaves unit buf l (standing h heard) k broadcast (word_at body 2) 1 (omega (arith, h.whole)) (word_at body 4)
       (word_laid h 4 (omega arith))
       legal m
       (changed_inside (storage (target k)) (table k l) (cells k l) (word_at body 2) _
@@ -156,7 +156,7 @@ module _ {p : ModbusProto} {tag body buf : List ℕ} {start : ℕ}
   unfolding chained
   chain_many g k c n few most m stores =
       let (q, e, s) =
-      many-leaves unit buf l (standing h heard) k broadcast (word_at body 2) (word_at body 4) (get_or body 6 0)
+      many_leaves unit buf l (standing h heard) k broadcast (word_at body 2) (word_at body 4) (get_or body 6 0)
       (byte_laid h 6 (start + 6) refl (omega arith))
       (omega (arith, h.whole)) (drop 7 body) (rest_laid h 7 (get_or body 6 0) (sym n)) m (stores (lead h heard).len) in
       ap (λ (x : After). from_parsed x buf l) (parsed_many h heard g k c n few most)

@@ -163,9 +163,9 @@ module _ (lent : Call) (out : List ℕ) (y : Bytes lent.frame) (strict : lent.nu
 
     module _ (serial : Serial (proto s)) (alone : ¬ Listed s.unit s.broadcasts) (f : ℕ) (rest : List ℕ)
         (e : handed (proto s) lent.frame ≡ s.unit ∷ f ∷ rest) (low : f ≤ 127) (none : (fn : Ported) → f ≢ code_of fn) where
-      pub unknown-answered : Gives (proto s) (chained_on lent out)
+      pub unknown_answered : Gives (proto s) (chained_on lent out)
           (wrap (proto s) [] (s.unit ∷ exception f 1)) l.coil_bytes l.holding_bytes
-      unknown-answered =
+      unknown_answered =
           let body = s.unit ∷ f ∷ rest in
           let h : Laid (proto s) [] body (handed (proto s) lent.frame) 0 =
           subst (λ (x : List ℕ). Laid (proto s) [] body x 0) (append-nil body ∙ sym e)
@@ -176,27 +176,27 @@ module _ (lent : Call) (out : List ℕ) (y : Bytes lent.frame) (strict : lent.nu
           (closed_line (proto s) [] s.unit (exception f 1))
 
       -- the shape wrong: FrameBroken
-      pub unknown-unshaped : Valid s → Roomy s → ¬ Shaped (proto s) lent.frame
+      pub unknown_unshaped : Valid s → Roomy s → ¬ Shaped (proto s) lent.frame
           → Differ (wrap (proto s) [] (s.unit ∷ exception f 1)) l.coil_bytes l.holding_bytes 5 0 []
-      unknown-unshaped valid roomy wrong =
-          (unknown-answered, refusal_returns s (tables_of l) lent.frame y (frame_broken valid roomy (rw (strict_same s lent.frame strict) wrong)))
+      unknown_unshaped valid roomy wrong =
+          (unknown_answered, refusal_returns s (tables_of l) lent.frame y (frame_broken valid roomy (rw (strict_same s lent.frame strict) wrong)))
 
       -- the check wrong: FrameCheck
-      pub unknown-unchecked : Valid s → Roomy s → Shaped (proto s) lent.frame
+      pub unknown_unchecked : Valid s → Roomy s → Shaped (proto s) lent.frame
           → ((tag body : List ℕ) → ¬ Framed (proto s) tag body lent.frame)
           → Differ (wrap (proto s) [] (s.unit ∷ exception f 1)) l.coil_bytes l.holding_bytes 6 0 []
-      unknown-unchecked valid roomy shaped wrong =
-          (unknown-answered, refusal_returns s (tables_of l) lent.frame y (frame_check valid roomy (rw (strict_same s lent.frame strict) shaped) (rw (strict_same s lent.frame strict) wrong)))
+      unknown_unchecked valid roomy shaped wrong =
+          (unknown_answered, refusal_returns s (tables_of l) lent.frame y (frame_check valid roomy (rw (strict_same s lent.frame strict) shaped) (rw (strict_same s lent.frame strict) wrong)))
 
     -- ---- a good frame of function 22 or 23, to us or to all: the chain answers by code 1, whether the driver serves it or not
 
     module _ (m : Message) (sent : Sent s lent.frame m) (within : Bounded (proto s) m.body) (reached : Broadcast s (unit_of m) ⊎ Ours s (unit_of m))
         (new : (number_of m ≡ 22) ⊎ (number_of m ≡ 23)) where
-      pub unknown-to-the-crate : Gives (proto s) (chained_on lent out)
+      pub unknown_to_the_crate : Gives (proto s) (chained_on lent out)
           (spoken (choose (listed? (unit_of m) s.broadcasts) true false) (wrap (proto s) m.tag (unit_of m ∷ exception (number_of m) 1)))
           l.coil_bytes l.holding_bytes
       unfolding Broadcast Ours
-      unknown-to-the-crate =
+      unknown_to_the_crate =
           let b = choose (listed? (unit_of m) s.broadcasts) true false in
           let held = laid (proto s) m.tag m.body lent.frame (strictly s lent.frame strict sent.framed) within in
           gives
@@ -265,13 +265,13 @@ module _ (lent : Call) (out : List ℕ) (y : Bytes lent.frame) (strict : lent.nu
           (omega (arith, length-take-le 6 m.body (omega arith)))
 
       -- function 16 stores as many registers as its byte count says, whatever its count
-      pub uncounted-stored : Known s lent.frame m (as_fn (many word)) → Lengthy (as_fn (many word)) m.body
+      pub uncounted_stored : Known s lent.frame m (as_fn (many word)) → Lengthy (as_fn (many word)) m.body
           → ¬ Valued (as_fn (many word)) m.body
           → word_at m.body 4 ≤ 123 → (n : ℕ) → get_or m.body 6 0 ≡ 2 * n → n ≤ 123
           → word_at m.body 2 + n ≤ l.holding_cells
           → Refused (wrap (proto s) m.tag (take 6 m.body)) l.coil_bytes
           (store registers l.holding_bytes (word_at m.body 2) (values word n (drop 7 m.body)))
-      uncounted-stored k long w most n z few inside =
+      uncounted_stored k long w most n z few inside =
           let (h, g) = laid (proto s) m.tag m.body lent.frame (strictly s lent.frame strict k.sent.framed) within in
           let d : length (drop 7 m.body) ≡ 2 * n = simp length-drop (omega (arith, long)) in
           let ok = written_sound lent k.sent.valid word in
@@ -309,17 +309,17 @@ module _ (lent : Call) (out : List ℕ) (y : Bytes lent.frame) (strict : lent.nu
           ∙ own (proto s) b s.unit (unit_of m) s.broadcasts m.tag _ e (heard fn k).ours
 
       -- what does not fit its table or its data is answered by code 2
-      pub misfit-refused : (fn : Ported) → Known s lent.frame m (as_fn fn) → Lengthy (as_fn fn) m.body → Untested fn m.body
+      pub misfit_refused : (fn : Ported) → Known s lent.frame m (as_fn fn) → Lengthy (as_fn fn) m.body → Untested fn m.body
           → Misfit l fn m.body
           → Refused (wrap (proto s) m.tag (unit_of m ∷ exception (number_of m) 2)) l.coil_bytes l.holding_bytes
-      misfit-refused (reads t) k n u f =
+      misfit_refused (reads t) k n u f =
           let (h, g) = laid (proto s) m.tag m.body lent.frame (strictly s lent.frame strict k.sent.framed) within in
           let c =
           chain_read_outside h (heard (as_fn (reads t)) k) l g t (to-us t k) (k.called ∙ as_code (reads t)) n (omega arith)
           (valid_sized lent k.sent.valid t) (omega arith) in
           (gives c (own_line (as_fn (reads t)) k), refuses (as_fn (reads t)) k n (λ v. omega (arith, v)))
-      misfit-refused (one j) k n u f = absurd f
-      misfit-refused (many j) k n u f =
+      misfit_refused (one j) k n u f = absurd f
+      misfit_refused (many j) k n u f =
           let (h, g) = laid (proto s) m.tag m.body lent.frame (strictly s lent.frame strict k.sent.framed) within in
           let ok = written_sound lent k.sent.valid j in
           let d : length (drop 7 m.body) ≡ get_or m.body 6 0 = simp length-drop (omega (arith, n)) in

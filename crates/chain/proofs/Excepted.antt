@@ -36,7 +36,7 @@ use Rattle.chain.proofs.Response.{closed, spoken_line, gives}
 use Rattle.chain.proofs.Laid.{Laid, Good, laid}
 use Rattle.chain.proofs.Parsed.{Heard, ready, answers}
 use Rattle.chain.proofs.Processed.{table, cells, stored_whole_law}
-use Rattle.chain.proofs.Faults.{excepted, chain_unsupported, chain_read_over, chain_many_over, chain_read_outside, chain-one-illegal, chain-one-outside, chain_many_refused}
+use Rattle.chain.proofs.Faults.{excepted, chain_unsupported, chain_read_over, chain_many_over, chain_read_outside, chain_one_illegal, chain_one_outside, chain_many_refused}
 use Rattle.chain.proofs.Verdicts.{strictly, Why, no_function, bad_value, bad_address, refused, refused_reply}
 use Rattle.chain.proofs.Served.{unheard, written_sound, legal, few_bytes}
 
@@ -110,7 +110,7 @@ module _ (lent : Call) where
         chain_read_over h heard l g t (unheard b (λ q. heeded q tt)) c n
         (by_cases (word_at body 4 ≤? _) (λ i. absurd (w (omega (arith, u), i))) (λ i. omega arith))
     value_excepted (one bit) c heeded n short w u =
-        chain-one-illegal h heard l g bit c n (λ i. w (legal_valued body i))
+        chain_one_illegal h heard l g bit c n (λ i. w (legal_valued body i))
     value_excepted (one word) c heeded n short w u = absurd (w tt)
     value_excepted (many k) c heeded n short w u =
         chain_many_over h heard l g k c n.1 (omega (arith, n))
@@ -125,7 +125,7 @@ module _ (lent : Call) where
         (valid_sized lent v t)
         (by_cases (word_at body 2 + word_at body 4 ≤? _) (λ j. absurd (i (j, tt))) (λ j. omega arith))
     address_excepted (one k) c heeded n w i =
-        chain-one-outside h heard l g k c n (legal k body w)
+        chain_one_outside h heard l g k c n (legal k body w)
         (written_sound lent v k) (one_beyond k body i)
     address_excepted (many k) c heeded n w i =
         chain_many_refused h heard l g k c n.1 (few_bytes k body w) w.1.0 OOBContext

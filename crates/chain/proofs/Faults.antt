@@ -27,9 +27,9 @@ use Rattle.process.specs.Process.{Legal, stored_many, wrote}
 use Rattle.chain.specs.Chain.{Chained, chained_to, from_processed, from_wrote, with_tables, from_parsed, chained, spoken}
 use Rattle.chain.proofs.Response.{Bears, header, closed}
 use Rattle.chain.proofs.Laid.{Laid, Good, byte_laid, word_laid, rest_laid}
-use Rattle.chain.proofs.Parsed.{ready, answers, faulty, lead, Heard, standing, begun, known, Over, parsed-read, parsed_one, parsed_many, parsed_foreign, parsed_ignored, parsed_unsupported, parsed-read-over, parsed_many_over}
+use Rattle.chain.proofs.Parsed.{ready, answers, faulty, lead, Heard, standing, begun, known, Over, parsed_read, parsed_one, parsed_many, parsed_foreign, parsed_ignored, parsed_unsupported, parsed_read_over, parsed_many_over}
 use Rattle.chain.proofs.Shared.{ported_low}
-use Rattle.chain.proofs.Processed.{table, cells, read-outside, Faults, one_outside, one_illegal, many_refused}
+use Rattle.chain.proofs.Processed.{table, cells, read_outside, Faults, one_outside, one_illegal, many_refused}
 use Rattle.chain.proofs.Finished.{fault_ends}
 use Rattle.chain.proofs.Carried.{chain}
 
@@ -92,7 +92,7 @@ module _ {p : ModbusProto} {tag body buf : List ℕ} {start : ℕ}
   pub chain_read_over : Good p body buf start → (t : Tab) → broadcast ≡ false → get_or body 1 0 ≡ code_of (reads t)
       → length body ≡ 6
       → most_read (kind_of t) < word_at body 4 → chain h heard l ≡ excepted 3
-  chain_read_over g t b c n m = over_ends (reads t) c (parsed-read-over h heard t c g b n m)
+  chain_read_over g t b c n m = over_ends (reads t) c (parsed_read_over h heard t c g b n m)
 
   pub chain_many_over : Good p body buf start → (k : Kind) → get_or body 1 0 ≡ code_of (many k)
       → length body ≡ 7 + get_or body 6 0
@@ -109,10 +109,10 @@ module _ {p : ModbusProto} {tag body buf : List ℕ} {start : ℕ}
   chain_read_outside g t b c n most ok outside =
       let z = ready p unit true true (reads t) start (word_at body 2) (word_at body 4) in
       let (q, e, s) =
-      read-outside unit buf l (standing h heard) t (word_at body 2) (word_at body 4) most
+      read_outside unit buf l (standing h heard) t (word_at body 2) (word_at body 4) most
       (omega (arith, h.whole)) ok outside in
       let w = ap (λ (x : Bool). parse.header x p buf) b ∙ h.led in
-      ap (λ (x : After). from_parsed x buf l) (parsed-read h heard t c g b n most)
+      ap (λ (x : After). from_parsed x buf l) (parsed_read h heard t c g b n most)
       ∙ ap (λ (x : After). with_tables (wrote x l.coil_bytes l.holding_bytes) (from_processed x)) e
       ∙ ap (with_tables (wrote (well (faulty 2 false (z 0) q.len) q.out) l.coil_bytes l.holding_bytes))
       (fault_ends (z 0) 2 (length out) tag q h.tagged (ported_low (reads t)) heard.room false
@@ -140,16 +140,16 @@ module _ {p : ModbusProto} {tag body buf : List ℕ} {start : ℕ}
 
   module _ (g : Good p body buf start) (k : Kind) where
     module _ (c : get_or body 1 0 ≡ code_of (one k)) (n : length body ≡ 6) where
-      pub chain-one-illegal : ¬ Legal k (word_at body 4) → chain h heard l ≡ excepted 3
-      chain-one-illegal illegal =
+      pub chain_one_illegal : ¬ Legal k (word_at body 4) → chain h heard l ≡ excepted 3
+      chain_one_illegal illegal =
           fault_ended (one k) k 1 3 c (parsed_one h heard g k c n)
           (one_illegal unit buf l (standing h heard) k broadcast (word_at body 2) 1 (omega (arith, h.whole)) (word_at body 4)
           (word_laid h 4 (omega arith))
           illegal)
 
-      pub chain-one-outside : Legal k (word_at body 4) → Sound (storage (target k)) (table k l) (cells k l) → cells k l ≤ word_at body 2
+      pub chain_one_outside : Legal k (word_at body 4) → Sound (storage (target k)) (table k l) (cells k l) → cells k l ≤ word_at body 2
           → chain h heard l ≡ excepted 2
-      chain-one-outside legal ok outside =
+      chain_one_outside legal ok outside =
           fault_ended (one k) k 1 2 c (parsed_one h heard g k c n)
           (one_outside unit buf l (standing h heard) k broadcast (word_at body 2) 1 (omega (arith, h.whole)) (word_at body 4)
           (word_laid h 4 (omega arith))

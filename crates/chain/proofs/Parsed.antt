@@ -201,16 +201,16 @@ module _ {p : ModbusProto} {tag body buf : List ℕ} {start : ℕ}
           ∙ ap (λ (x : Bool). ended (read_parsed (most_read (kind_of t)) x (known (reads t)) buf lead.out)) b
           ∙ ap ended (pass _ _ _ (omega (arith, h.whole)) ∙ stay _ _ _ _ (check_of g 6 n))
 
-      pub parsed-read : word_at body 4 ≤ most_read (kind_of t)
+      pub parsed_read : word_at body 4 ≤ most_read (kind_of t)
           → frame_parsed (fresh unit p) buf list out
           ≡ well (ready p unit true true (reads t) start (word_at body 2) (word_at body 4) lead.len) lead.out
-      parsed-read k =
+      parsed_read k =
           read-parsed
           ∙ read_accepted_law (most_read (kind_of t)) (known (reads t)) buf lead.out (word_at body 4)
           (sym (word_laid h 4 (omega arith))) k _ (sym (word_laid h 2 (omega arith)))
 
-      pub parsed-read-over : most_read (kind_of t) < word_at body 4 → Over (reads t)
-      parsed-read-over k =
+      pub parsed_read_over : most_read (kind_of t) < word_at body 4 → Over (reads t)
+      parsed_read_over k =
           read-parsed
           ∙ read_excess (most_read (kind_of t)) (known (reads t)) buf lead.out (word_at body 4)
           (sym (word_laid h 4 (omega arith))) k

@@ -116,11 +116,11 @@ module _ {p : ModbusProto} {start n : ℕ} {lead : List ℕ} {r : Response} (uni
         )
 
     module _ (sound : Sound S (table_of l t) (cells_of l t)) where
-      pub read-leaves : reg + count ≤ cells_of l t
+      pub read_leaves : reg + count ≤ cells_of l t
           → (q : Response)
           × (read_processed (asked r.len) buf l r.out ≡ well (asked q.len) q.out)
           × Bears n (head_said ++ values) q
-      read-leaves inside =
+      read_leaves inside =
           let (q, e, s₁) = read_headed in
           let m : length values ≡ bytes = length_shown S.kind _
           ∙ ap (octets S.kind) (length_part (S.cell (table_of l t)) reg count) in
@@ -136,11 +136,11 @@ module _ {p : ModbusProto} {start n : ℕ} {lead : List ℕ} {r : Response} (uni
           )
 
       -- cells outside the table: the last five bytes are dropped, which leaves those that parse copied
-      pub read-outside : cells_of l t < reg + count
+      pub read_outside : cells_of l t < reg + count
           → (q : Response)
           × (read_processed (asked r.len) buf l r.out ≡ well (faulty 2 false (asked 0) q.len) q.out)
           × Bears n lead q
-      read-outside outside =
+      read_outside outside =
           let (q, e, s₁) = read_headed in
           let k : q.len - 5 ≡ length lead = omega (arith, s₁.long, head_length, dropped p (length lead) g.short) in
           let f = field_length p (bytes + 3) in
@@ -245,8 +245,8 @@ module _ {p : ModbusProto} {start n : ℕ} {lead : List ℕ} {r : Response} (uni
           (pass _ _ _ (subst (Legal k) (sym w) legal))
           ∙ ap (λ (x : ℕ). writes k broadcast (one k) reg count (confirms k broadcast (one k) reg count (change x))) w
 
-      pub one-leaves : Legal k v → (m : List ℕ) → change v ≡ go (0, m) → Stores k broadcast (one k) reg count m
-      one-leaves legal m e = stores k broadcast (one k) reg count (change v) (one-called legal) there m e
+      pub one_leaves : Legal k v → (m : List ℕ) → change v ≡ go (0, m) → Stores k broadcast (one k) reg count m
+      one_leaves legal m e = stores k broadcast (one k) reg count (change v) (one-called legal) there m e
 
       pub one_outside : Legal k v → (x : ErrorKind) → change v ≡ stop x → Faults k broadcast (one k) reg count 2
       one_outside legal x e = refuses k broadcast (one k) reg count (change v) (one-called legal) x e
@@ -274,8 +274,8 @@ module _ {p : ModbusProto} {start n : ℕ} {lead : List ℕ} {r : Response} (uni
           ∙ ap (λ (x : List ℕ). writes k broadcast (many k) reg count (confirms k broadcast (many k) reg count (call x)))
           (ap (λ (x : ℕ). take x (drop (start + 7) buf)) b ∙ t)
 
-      pub many-leaves : (m : List ℕ) → call d ≡ go (0, m) → Stores k broadcast (many k) reg count m
-      many-leaves m e = stores k broadcast (many k) reg count (call d) many-called (omega arith) m e
+      pub many_leaves : (m : List ℕ) → call d ≡ go (0, m) → Stores k broadcast (many k) reg count m
+      many_leaves m e = stores k broadcast (many k) reg count (call d) many-called (omega arith) m e
 
       pub many_refused : (x : ErrorKind) → call d ≡ stop x → Faults k broadcast (many k) reg count 2
       many_refused x e = refuses k broadcast (many k) reg count (call d) many-called x e

@@ -19,7 +19,7 @@ use Rattle.modbus.specs.Drive.{Inside, inside?}
 use Rattle.modbus.specs.declared.Answer.{Answer}
 use Rattle.modbus.proofs.StepLaws.{pass, fail, follow, halt, needed, bound}
 use Rattle.modbus.proofs.FindLaws.{find_fn, found_fn, found_fault}
-use Rattle.modbus.proofs.WeighLaws.{weigh-goes, went}
+use Rattle.modbus.proofs.WeighLaws.{weigh_goes, went}
 use Rattle.modbus.proofs.RequestLaws.{Heard, says_heard}
 use Rattle.requests.specs.Judged.{weighed, judged, on?, kind_by}
 use Rattle.requests.specs.declared.Write.{Write}
@@ -60,7 +60,7 @@ module _ (n u : ℕ) (a : Ask) (pad : List ℕ) (fills : Pads a pad) where
   pub weighed_goes : Permitted a → Inside (every_cell n) a → weighed (every_cell n) false body ≡ go a
   weighed_goes p i =
       let h = says_heard a u (pdu a pad) p (pad, fills, refl) in
-      weigh-goes _ _ (every_cell n) _ body (fn_of a) h.number (λ q. q.0) h.lengthy h.valued (subst (Inside (every_cell n)) (sym h.asks) i)
+      weigh_goes _ _ (every_cell n) _ body (fn_of a) h.number (λ q. q.0) h.lengthy h.valued (subst (Inside (every_cell n)) (sym h.asks) i)
       ∙ ap go h.asks
 
 -- the values fit their bytes

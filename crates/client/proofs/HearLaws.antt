@@ -209,11 +209,11 @@ module _ (n : ℕ) (m : Message) (a : Ask) (r : List ℕ) (room : ℕ) where
     replied_none o e = pass _ _ _ fits ∙ halt _ _ (silent_stop _ e)
 
     module _ (reply : Message) (e : unwrap (proto_of n) r ≡ go reply) where
-      pub replied-other : ¬ (reply.tag ≡ m.tag) → replied n m a r room ≡ stop not_my_reply
-      replied-other h = pass _ _ _ fits ∙ follow _ _ (silent_go _ e) ∙ fail _ _ _ (λ q. h q.0)
+      pub replied_other : ¬ (reply.tag ≡ m.tag) → replied n m a r room ≡ stop not_my_reply
+      replied_other h = pass _ _ _ fits ∙ follow _ _ (silent_go _ e) ∙ fail _ _ _ (λ q. h q.0)
 
-      pub replied-body : reply.tag ≡ m.tag → replied n m a r room ≡ heard_from a m.body reply.body
-      replied-body t =
+      pub replied_body : reply.tag ≡ m.tag → replied n m a r room ≡ heard_from a m.body reply.body
+      replied_body t =
           pass _ _ _ fits ∙ follow _ _ (silent_go _ e)
           ∙ by_cases (unit_of reply ≟ unit_of m)
           (λ u. pass _ _ _ (t, u) ∙ sym (pass _ _ _ u))

@@ -19,7 +19,7 @@ use Rattle.modbus.proofs.StepLaws.{pass, fail, follow, halt, bound, needed, boun
 use Rattle.modbus.proofs.RequestLaws.{asked_says, says_heard, fn_asked}
 use Rattle.modbus.proofs.FrameLaws.{sound, complete, bytes_spelled}
 use Rattle.modbus.proofs.FindLaws.{find_fn, found_fn, found_none, found_fault}
-use Rattle.modbus.proofs.WeighLaws.{weigh_high, weigh_none, weigh_read, weigh-length, weigh-value, weigh-address, weigh-goes, went}
+use Rattle.modbus.proofs.WeighLaws.{weigh_high, weigh_none, weigh_read, weigh_length, weigh_value, weigh_address, weigh_goes, went}
 use Rattle.modbus.proofs.DriveLaws.{quietly_go, quietly_stop, went_quietly, stopped_quietly}
 use Rattle.demands.specs.Demand.{Request, Addressed, Serves}
 use Rattle.demands.specs.Order.{Sent, Known, Coded, exception_sent, ignored, Refusal, bad_setup, no_room, frame_broken, frame_check, foreign as foreign-unit, bad_function, no_function, read_ignored, wrong_length, bad_value, bad_address}
@@ -111,7 +111,7 @@ module _ (s : Setup) (f : List ℕ) where
       let heard = says_heard r.ask r.unit h.encoded.0 h.permitted h.encoded.1 in
       judge_sent s f (message r h) (record { valid = valid; roomy = roomy; framed = h.encoded.2 })
       ∙ pass _ _ _ (reached s r h.addressed)
-      ∙ follow _ _ (weigh-goes _ _ s _ _ (fn_of r.ask) heard.number (heeded s r h.addressed) heard.lengthy heard.valued
+      ∙ follow _ _ (weigh_goes _ _ s _ _ (fn_of r.ask) heard.number (heeded s r h.addressed) heard.lengthy heard.valued
       (rw heard.asks h.inside))
       ∙ rw heard.asks
 
@@ -152,15 +152,15 @@ module _ (s : Setup) (t : Tables) (f : List ℕ) where
   refusal_returns y (read_ignored m fn h b e i) =
       quiet_returns read_ignored_quiet (judge_stops s f m h (inl b) (weigh_read _ _ s _ _ fn e b i))
   refusal_returns y (wrong_length m fn h n) =
-      quiet_returns wrong_length_quiet (judge_stops s f m h.sent h.reached (weigh-length _ _ s _ _ fn h.called h.heeded n))
+      quiet_returns wrong_length_quiet (judge_stops s f m h.sent h.reached (weigh_length _ _ s _ _ fn h.called h.heeded n))
   refusal_returns y (bad_value m fn h l n c) =
       coded_returns c
-      (judge_stops s f m h.sent h.reached (weigh-value _ _ s _ _ fn h.called h.heeded l ((value_by_places s f m fn h l).0 n)))
+      (judge_stops s f m h.sent h.reached (weigh_value _ _ s _ _ fn h.called h.heeded l ((value_by_places s f m fn h l).0 n)))
   refusal_returns y (bad_address m a h q n c) =
       let k = asks_heard s f m a h.sent q in
       coded_returns c
       (judge_stops s f m h.sent h.reached
-      (weigh-address _ _ s _ _ (fn_of a) h.called h.heeded k.lengthy k.valued (λ i. n (subst (Inside s) k.asks i))))
+      (weigh_address _ _ s _ _ (fn_of a) h.called h.heeded k.lengthy k.valued (λ i. n (subst (Inside s) k.asks i))))
 
   -- the refusal that a fault is settled as
   abbrev Refused : Fault → Type 0

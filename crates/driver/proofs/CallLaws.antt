@@ -44,12 +44,12 @@ module _ (l : Call) where
 
     module _ (r : Roomy set) where
       -- a frame that is broken, or has a wrong check
-      pub unopened-called : (m : ℕ) → m ≡ opened (unwrap (proto set) shown) → m < 2 → quietly_leaving (m + 5) ≡ called l
+      pub unopened_called : (m : ℕ) → m ≡ opened (unwrap (proto set) shown) → m < 2 → quietly_leaving (m + 5) ≡ called l
       unfolding called judge settle
-      unopened-called m e h =
+      unopened_called m e h =
           ap quietly_leaving (sym (number_fault m h))
           ∙ sym (ap (settled l) (pass _ _ _ v ∙ pass _ _ _ r ∙ halt _ _ (quietly_stop _ (opened_none (proto set) shown m e h))))
 
-      pub opened-called : (tag b : List ℕ) → unwrap (proto set) shown ≡ go (record { tag = tag; body = b }) → handled l tag b ≡ called l
+      pub opened_called : (tag b : List ℕ) → unwrap (proto set) shown ≡ go (record { tag = tag; body = b }) → handled l tag b ≡ called l
       unfolding called judge
-      opened-called tag b e = sym (ap (settled l) (pass _ _ _ v ∙ pass _ _ _ r ∙ follow _ _ (quietly_go _ e)))
+      opened_called tag b e = sym (ap (settled l) (pass _ _ _ v ∙ pass _ _ _ r ∙ follow _ _ (quietly_go _ e)))

@@ -78,8 +78,8 @@ module _ (most : ℕ) (broadcast : Bool) (s : ModbusFrame) (buf out : List ℕ) 
       pub read_refused : (k : ErrorKind) → r ≡ Refused k → ended (read_parsed most broadcast s buf out) ≡ refused k s out
       read_refused k q = rw b (ap ended (pass _ _ _ h ∙ check_refused _ _ _ _ r e k q))
 
-      pub read-checked : r ≡ Done → ended (read_parsed most broadcast s buf out) ≡ ended (read_accepted most s buf out)
-      read-checked q = rw b (ap ended (pass _ _ _ h ∙ check_done _ _ _ _ r e q))
+      pub read_checked : r ≡ Done → ended (read_parsed most broadcast s buf out) ≡ ended (read_accepted most s buf out)
+      read_checked q = rw b (ap ended (pass _ _ _ h ∙ check_done _ _ _ _ r e q))
 
 -- ---- a write of one
 
@@ -132,9 +132,9 @@ module _ (most : ℕ) (broadcast : Bool) (given s : ModbusFrame) (buf out : List
           → ended (many_parsed most broadcast given s buf out) ≡ refused k s out
       many_refused k q = ap ended (pass _ _ _ h ∙ pass _ _ _ countable ∙ check_refused _ _ _ _ r (rw l at e) k q)
 
-      pub many-checked : r ≡ Done
+      pub many_checked : r ≡ Done
           → ended (many_parsed most broadcast given s buf out) ≡ ended (many_accepted most broadcast s buf out)
-      many-checked q = ap ended (pass _ _ _ h ∙ pass _ _ _ countable ∙ check_done _ _ _ _ r (rw l at e) q)
+      many_checked q = ap ended (pass _ _ _ h ∙ pass _ _ _ countable ∙ check_done _ _ _ _ r (rw l at e) q)
 
 -- ---- the function
 

@@ -76,16 +76,16 @@ module _ (buf : List ℕ) (at : ℕ) (d : List ℕ) where
 
     module _ (i : ℕ) (j : i < length d) where
       -- one byte differs
-      pub follows-not : ¬ (get_or buf (at + i) 0 ≡ get_or d i 0) → follows buf at d ≡ stop FrameCRCError
+      pub follows_not : ¬ (get_or buf (at + i) 0 ≡ get_or d i 0) → follows buf at d ≡ stop FrameCRCError
       unfolding follows
-      follows-not n =
+      follows_not n =
           pass _ _ _ h
           ∙ fail _ _ _ (λ e. n (sym (get_or-take _ _ i 0 j ∙ get_or-drop at buf i 0) ∙ ap (λ (l : List ℕ). get_or l i 0) e))
 
       -- one byte more is the same
-      pub same-further : get_or buf (at + i) 0 ≡ get_or d i 0 → take i (drop at buf) ≡ take i d
+      pub same_further : get_or buf (at + i) 0 ≡ get_or d i 0 → take i (drop at buf) ≡ take i d
           → take (i + 1) (drop at buf) ≡ take (i + 1) d
-      same-further g e =
+      same_further g e =
           let k : i < length (drop at buf) = simp length-drop (omega arith) in
           rw (add-one i)
           (take-suc _ i 0 k

@@ -32,23 +32,23 @@ module _ (o : ℕ) (l : List ℕ) where
     peek_few h = ap seen_as (pass _ _ _ m ∙ fail _ _ _ h)
 
     module _ (a : 4 ≤ length l) where
-      pub peek-large : ¬ word_at l 2 ≤ 4096 → peeked o l ≡ BadRecord
+      pub peek_large : ¬ word_at l 2 ≤ 4096 → peeked o l ≡ BadRecord
       unfolding peeked weighed
-      peek-large h = ap seen_as (pass _ _ _ m ∙ pass _ _ _ a ∙ fail _ _ _ h)
+      peek_large h = ap seen_as (pass _ _ _ m ∙ pass _ _ _ a ∙ fail _ _ _ h)
 
       module _ (b : word_at l 2 ≤ 4096) where
-        pub peek-cut : ¬ 4 + word_at l 2 ≤ length l → peeked o l ≡ More
+        pub peek_cut : ¬ 4 + word_at l 2 ≤ length l → peeked o l ≡ More
         unfolding peeked weighed
-        peek-cut h = ap seen_as (pass _ _ _ m ∙ pass _ _ _ a ∙ pass _ _ _ b ∙ fail _ _ _ h)
+        peek_cut h = ap seen_as (pass _ _ _ m ∙ pass _ _ _ a ∙ pass _ _ _ b ∙ fail _ _ _ h)
 
         module _ (c : 4 + word_at l 2 ≤ length l) where
-          pub peek-long : ¬ o + (4 + word_at l 2) ≤ 4294967295 → peeked o l ≡ TooLong
+          pub peek_long : ¬ o + (4 + word_at l 2) ≤ 4294967295 → peeked o l ≡ TooLong
           unfolding peeked weighed
-          peek-long h = ap seen_as (pass _ _ _ m ∙ pass _ _ _ a ∙ pass _ _ _ b ∙ pass _ _ _ c ∙ fail _ _ _ h)
+          peek_long h = ap seen_as (pass _ _ _ m ∙ pass _ _ _ a ∙ pass _ _ _ b ∙ pass _ _ _ c ∙ fail _ _ _ h)
 
-          pub peek-whole : o + (4 + word_at l 2) ≤ 4294967295 → peeked o l ≡ Whole (word_at l 2)
+          pub peek_whole : o + (4 + word_at l 2) ≤ 4294967295 → peeked o l ≡ Whole (word_at l 2)
           unfolding peeked weighed
-          peek-whole h = ap seen_as (pass _ _ _ m ∙ pass _ _ _ a ∙ pass _ _ _ b ∙ pass _ _ _ c ∙ pass _ _ _ h)
+          peek_whole h = ap seen_as (pass _ _ _ m ∙ pass _ _ _ a ∙ pass _ _ _ b ∙ pass _ _ _ c ∙ pass _ _ _ h)
 
 -- by cases of what is said
 pub peek_cases : {C : Type 0} (o : ℕ) (l : List ℕ)
@@ -65,10 +65,10 @@ peek_cases o l mark few large cut long whole =
     (λ a. by_cases (word_at l 2 ≤? 4096)
     (λ b. by_cases (4 + word_at l 2 ≤? length l)
     (λ c. by_cases (o + (4 + word_at l 2) ≤? 4294967295)
-    (λ d. whole m a b c d (peek-whole o l m a b c d))
-    (λ d. long m a b c d (peek-long o l m a b c d)))
-    (λ c. cut m a b c (peek-cut o l m a b c)))
-    (λ b. large m a b (peek-large o l m a b)))
+    (λ d. whole m a b c d (peek_whole o l m a b c d))
+    (λ d. long m a b c d (peek_long o l m a b c d)))
+    (λ c. cut m a b c (peek_cut o l m a b c)))
+    (λ b. large m a b (peek_large o l m a b)))
     (λ a. few m (omega arith) (peek_few o l m a)))
     (λ m. mark m (peek_mark o l m))
 
@@ -103,10 +103,10 @@ peek_stays o l r =
     peek_cases o l
     (λ m e. inr (peek_mark o (l ++ r) (λ h. m (mark_front l r h)) ∙ sym e))
     (λ m a e. inl e)
-    (λ m a b e. let w = word_append l r 2 (omega arith) in inr (peek-large o (l ++ r) (mark_append l r (omega arith) m) (omega (arith, k)) (λ h. b (omega (arith, w, h))) ∙ sym e))
+    (λ m a b e. let w = word_append l r 2 (omega arith) in inr (peek_large o (l ++ r) (mark_append l r (omega arith) m) (omega (arith, k)) (λ h. b (omega (arith, w, h))) ∙ sym e))
     (λ m a b c e. inl e)
-    (λ m a b c d e. let w = word_append l r 2 (omega arith) in inr (peek-long o (l ++ r) (mark_append l r (omega arith) m) (omega (arith, k)) (omega (arith, w)) (omega (arith, w, k)) (λ h. d (omega (arith, w, h))) ∙ sym e))
-    (λ m a b c d e. let w = word_append l r 2 (omega arith) in inr (peek-whole o (l ++ r) (mark_append l r (omega arith) m) (omega (arith, k)) (omega (arith, w)) (omega (arith, w, k)) (omega (arith, w)) ∙ ap Whole w ∙ sym e))
+    (λ m a b c d e. let w = word_append l r 2 (omega arith) in inr (peek_long o (l ++ r) (mark_append l r (omega arith) m) (omega (arith, k)) (omega (arith, w)) (omega (arith, w, k)) (λ h. d (omega (arith, w, h))) ∙ sym e))
+    (λ m a b c d e. let w = word_append l r 2 (omega arith) in inr (peek_whole o (l ++ r) (mark_append l r (omega arith) m) (omega (arith, k)) (omega (arith, w)) (omega (arith, w, k)) (omega (arith, w)) ∙ ap Whole w ∙ sym e))
 
 -- which of the five it is, as a number
 abbrev kind : Peek → ℕ

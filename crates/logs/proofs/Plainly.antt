@@ -14,13 +14,13 @@ use Rattle.logs.specs.declared.Total.{Total}
 use Rattle.logs.specs.declared.Peek.TheVariants.{Whole}
 use Rattle.logs.specs.declared.Report.{Report}
 use Rattle.logs.specs.declared.Report.TheVariants as says
-use Rattle.logs.proofs.LogLaws.{peek-whole, report_step, ends_empty}
+use Rattle.logs.proofs.LogLaws.{peek_whole, report_step, ends_empty}
 
 -- a record is seen whole
 whole : (o : ℕ) (p : List ℕ) → length p ≤ 4096 → o + (4 + length p) ≤ 4294967295 → peeked o (recorded p) ≡ Whole (length p)
 whole o p s h =
     let w : length p / 256 * 256 + length p % 256 ≡ length p = omega arith in
-    peek-whole o (recorded p) (inr refl, inr refl) (omega arith) (omega (arith, w)) (omega (arith, w)) (omega (arith, w)) ∙ ap Whole w
+    peek_whole o (recorded p) (inr refl, inr refl) (omega arith) (omega (arith, w)) (omega (arith, w)) (omega (arith, w)) ∙ ap Whole w
 
 -- and taken off the front
 one : (t : Total) (p r : List ℕ) → length p ≤ 4096 → t.at + (4 + length p) ≤ 4294967295 → report t (recorded p ++ r) ≡ report (advanced t p) r

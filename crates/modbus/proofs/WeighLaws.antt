@@ -36,24 +36,24 @@ module _ {F P : Type 0} (silent : Silent → F) (refused : ℕ → F) (s : Setup
     weigh_read p i = pass _ _ _ low ∙ follow _ _ (find_fn _ _ (proto s) fn e) ∙ fail _ _ _ (λ (n : ¬ (P × IsRead fn)). n (p, i))
 
     module _ (heeded : ¬ (P × IsRead fn)) where
-      pub weigh-length : ¬ Lengthy fn b → Weighs (stop (silent wrong_length_quiet))
+      pub weigh_length : ¬ Lengthy fn b → Weighs (stop (silent wrong_length_quiet))
       unfolding weigh
-      weigh-length n = pass _ _ _ low ∙ follow _ _ (find_fn _ _ (proto s) fn e) ∙ pass _ _ _ heeded ∙ fail _ _ _ n
+      weigh_length n = pass _ _ _ low ∙ follow _ _ (find_fn _ _ (proto s) fn e) ∙ pass _ _ _ heeded ∙ fail _ _ _ n
 
       module _ (l : Lengthy fn b) where
-        pub weigh-value : ¬ Valued fn b → Weighs (stop (refused 3))
+        pub weigh_value : ¬ Valued fn b → Weighs (stop (refused 3))
         unfolding weigh
-        weigh-value n = pass _ _ _ low ∙ follow _ _ (find_fn _ _ (proto s) fn e) ∙ pass _ _ _ heeded ∙ pass _ _ _ l ∙ fail _ _ _ n
+        weigh_value n = pass _ _ _ low ∙ follow _ _ (find_fn _ _ (proto s) fn e) ∙ pass _ _ _ heeded ∙ pass _ _ _ l ∙ fail _ _ _ n
 
         module _ (v : Valued fn b) where
-          pub weigh-address : ¬ Inside s (asked fn b) → Weighs (stop (refused 2))
+          pub weigh_address : ¬ Inside s (asked fn b) → Weighs (stop (refused 2))
           unfolding weigh
-          weigh-address n =
+          weigh_address n =
               pass _ _ _ low ∙ follow _ _ (find_fn _ _ (proto s) fn e) ∙ pass _ _ _ heeded ∙ pass _ _ _ l ∙ pass _ _ _ v ∙ fail _ _ _ n
 
-          pub weigh-goes : Inside s (asked fn b) → Weighs (go (asked fn b))
+          pub weigh_goes : Inside s (asked fn b) → Weighs (go (asked fn b))
           unfolding weigh
-          weigh-goes i =
+          weigh_goes i =
               pass _ _ _ low ∙ follow _ _ (find_fn _ _ (proto s) fn e) ∙ pass _ _ _ heeded ∙ pass _ _ _ l ∙ pass _ _ _ v ∙ pass _ _ _ i
 
   -- what a body that goes through tells

@@ -7,7 +7,7 @@ use lib.ListN.{length, take, drop}
 use lib.Seq.{take-length}
 use borrow.Author.Rules.{rules}
 use Rattle.modbus.specs.Paper.{told}
-use Rattle.incoming.proofs.EnvelopeLaws.{follows_beyond, follows_there, follows-not, same-further}
+use Rattle.incoming.proofs.EnvelopeLaws.{follows_beyond, follows_there, follows_not, same_further}
 use Rattle.incoming.proofs.follows.Statement.{statement}
 use Rattle.incoming.proofs.follows.Tie as tie
 
@@ -32,13 +32,13 @@ loop-holds c = (omega arith, refl)
 returns-4 : tie.Need-returns-4 invariant-loop decreases-loop
 returns-4 c =
     let l = c.before.before.before.before.loop in
-    sym (ap told (follows-not _ _ _ (omega arith) l.i (omega arith) c.if4.true))
+    sym (ap told (follows_not _ _ _ (omega arith) l.i (omega arith) c.if4.true))
 
 loop-again : tie.Need-loop-preserved invariant-loop decreases-loop
 loop-again c =
     let l = c.before.before.before.before.loop in
     let a = c.before.before.before.before.before.before.before.before.args in
-    (omega arith, same-further a.buf.now _ a.check.now (omega arith) l.i (omega arith) c.if4.false l.invariant.1)
+    (omega arith, same_further a.buf.now _ a.check.now (omega arith) l.i (omega arith) c.if4.false l.invariant.1)
 
 returns-5 : tie.Need-returns-5 invariant-loop decreases-loop
 returns-5 c =

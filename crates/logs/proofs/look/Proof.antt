@@ -4,7 +4,7 @@ use mathlib.Core.Logic.{inl, inr, ⊎_elim}
 use mathlib.Core.Path.{sym, ap, ◌∙◌}
 use native.Mathlib.Omega.{arith}
 use Rattle.logs.specs.declared.Peek.TheVariants.{Whole}
-use Rattle.logs.proofs.LogLaws.{peek_mark, peek_few, peek-large, peek-cut, peek-long, peek-whole}
+use Rattle.logs.proofs.LogLaws.{peek_mark, peek_few, peek_large, peek_cut, peek_long, peek_whole}
 use borrow.Author.Rules.{rules}
 use Rattle.logs.proofs.look.Statement.{statement}
 use Rattle.logs.proofs.look.Tie as tie
@@ -31,23 +31,23 @@ returns-5 c =
 
 returns-6 : tie.Need-returns-6
 returns-6 c =
-    let w = c.before.word.ensures in sym (peek-large _ _ (inr c.before.before.before.before.before.before.if2.false, inr c.before.before.before.if4.false) (omega arith) (λ h. omega (arith, w, h)))
+    let w = c.before.word.ensures in sym (peek_large _ _ (inr c.before.before.before.before.before.before.if2.false, inr c.before.before.before.if4.false) (omega arith) (λ h. omega (arith, w, h)))
 
 returns-7 : tie.Need-returns-7
 returns-7 c =
-    let w = c.before.before.word.ensures in sym (peek-cut _ _ (inr c.before.before.before.before.before.before.before.if2.false, inr c.before.before.before.before.if4.false) (omega arith) (omega (arith, w)) (λ h. omega (arith, w, h)))
+    let w = c.before.before.word.ensures in sym (peek_cut _ _ (inr c.before.before.before.before.before.before.before.if2.false, inr c.before.before.before.before.if4.false) (omega arith) (omega (arith, w)) (λ h. omega (arith, w, h)))
 
 returns-8 : tie.Need-returns-8
 returns-8 c =
-    let w = c.before.before.before.word.ensures in sym (peek-long _ _ (inr c.before.before.before.before.before.before.before.before.if2.false, inr c.before.before.before.before.before.if4.false) (omega arith) (omega (arith, w)) (omega (arith, w)) (λ h. omega (arith, w, h)))
+    let w = c.before.before.before.word.ensures in sym (peek_long _ _ (inr c.before.before.before.before.before.before.before.before.if2.false, inr c.before.before.before.before.before.if4.false) (omega arith) (omega (arith, w)) (omega (arith, w)) (λ h. omega (arith, w, h)))
 
 returns-9 : tie.Need-returns-9
 returns-9 c =
-    let w = c.before.before.before.before.word.ensures in sym (peek-long _ _ (inr c.before.before.before.before.before.before.before.before.before.if2.false, inr c.before.before.before.before.before.before.if4.false) (omega arith) (omega (arith, w)) (omega (arith, w)) (λ h. omega (arith, w, h)))
+    let w = c.before.before.before.before.word.ensures in sym (peek_long _ _ (inr c.before.before.before.before.before.before.before.before.before.if2.false, inr c.before.before.before.before.before.before.if4.false) (omega arith) (omega (arith, w)) (omega (arith, w)) (λ h. omega (arith, w, h)))
 
 returns-10 : tie.Need-returns-10
 returns-10 c =
-    let w = c.before.before.before.before.word.ensures in ap Whole w ∙ sym (peek-whole _ _ (inr c.before.before.before.before.before.before.before.before.before.if2.false, inr c.before.before.before.before.before.before.if4.false) (omega arith) (omega (arith, w)) (omega (arith, w)) (omega (arith, w)))
+    let w = c.before.before.before.before.word.ensures in ap Whole w ∙ sym (peek_whole _ _ (inr c.before.before.before.before.before.before.before.before.before.if2.false, inr c.before.before.before.before.before.before.if4.false) (omega arith) (omega (arith, w)) (omega (arith, w)) (omega (arith, w)))
 
 pub look_spec : {M : Type 1} → statement M
 look_spec =

@@ -16,7 +16,7 @@ use Rattle.client.proofs.StrictLaws.{strict_none, strict_body}
 use Rattle.client.specs.Asking.{not_my_reply, silent, read_into}
 use Rattle.client.specs.Hearing.{message_in, heard_from}
 use Rattle.client.proofs.CloseLaws.{start_six}
-use Rattle.client.proofs.HearLaws.{told_stop, replied_full, replied_none, replied-other, replied-body, part_same, part_long}
+use Rattle.client.proofs.HearLaws.{told_stop, replied_full, replied_none, replied_other, replied_body, part_same, part_long}
 use Rattle.client.proofs.hear.hear.Statement.{statement}
 use Rattle.client.proofs.hear.hear.Tie as tie
 
@@ -52,7 +52,7 @@ returns-3 c a q =
     let o = c.before.before.before.before.«open» in
     let h = strict_body (proto_of v.proto) v.response.now o.result o.ensures.0 _ o.ensures.1.0 o.ensures.1.1 (omega (arith, c.before.before.before.if2.false)) in
     told_stop _ _ _ not_my_reply 12
-    (replied-other v.proto (message_in v.proto v.request.now v.sent.now) a v.response.now _ (omega (arith, q.counted, c.before.before.before.before.before.before.if1.false)) _ h.0
+    (replied_other v.proto (message_in v.proto v.request.now v.sent.now) a v.response.now _ (omega (arith, q.counted, c.before.before.before.before.before.before.if1.false)) _ h.0
     (test_refuses _ _ c.before.before.other_tag.ensures c.before.if3.true))
     c.told3.ensures refl
 
@@ -90,7 +90,7 @@ returns-4 c a q =
     ∙ ap (λ (l : List ℕ). read_into v.values.now (heard_from a v.sent.now l))
     (part_same _ o.result (start_of (proto_of v.proto)) _ _ c.before.before.before.before.before.before.before.start-of.ensures c.before.before.before.before.before.body-source.ensures)
     ∙ sym (ap (read_into v.values.now)
-    (replied-body v.proto (message_in v.proto v.request.now v.sent.now) a v.response.now _ (omega (arith, q.counted, c.before.before.before.before.before.before.before.before.before.before.before.before.before.if1.false)) _ h.0
+    (replied_body v.proto (message_in v.proto v.request.now v.sent.now) a v.response.now _ (omega (arith, q.counted, c.before.before.before.before.before.before.before.before.before.before.before.before.before.if1.false)) _ h.0
     (test_passes _ _ c.before.before.before.before.before.before.before.before.before.other_tag.ensures c.before.before.before.before.before.before.before.before.if3.false)))
 
 pub hear-spec : {M : Type 1} → statement M

@@ -9,7 +9,7 @@ use Rattle.modbus.proofs.StepLaws.{test_passes}
 use Rattle.modbus.specs.Paper.{told}
 use Rattle.incoming.proofs.EnvelopeLaws.{frame_counted}
 use Rattle.frame.proofs.StateLaws.{left}
-use Rattle.frame.proofs.ParseLaws.{many_short, many_overflows, many_refused, many-checked}
+use Rattle.frame.proofs.ParseLaws.{many_short, many_overflows, many_refused, many_checked}
 use Rattle.frame.proofs.ModbusFrame.request_many.Statement.{statement}
 use Rattle.frame.proofs.ModbusFrame.request_many.Tie as tie
 
@@ -48,7 +48,7 @@ returns-4 c out =
     let p = c.before.before.before in
     let a = p.before.before.before.before.before.before.args in
     c.accept-many.ensures out
-    ∙ sym (many-checked a.most a.broadcast a.given a.self a.buf.now out (omega arith) _ refl _
+    ∙ sym (many_checked a.most a.broadcast a.given a.self a.buf.now out (omega arith) _ refl _
     p.before.before.overflows.ensures p.before.if2.false _ (p.check-frame-crc.ensures ∙ ap told (frame_counted _ _ _ _ (test_passes _ _ p.before.before.overflows.ensures p.before.if2.false))) c.before.enum_told.given.1)
 
 pub request-many-spec : {M : Type 1} → statement M

@@ -6,7 +6,7 @@ use borrow.Author.Rules.{rules}
 use Rattle.modbus.specs.Paper.{told}
 use Rattle.incoming.proofs.EnvelopeLaws.{frame_byte}
 use Rattle.frame.proofs.StateLaws.{left}
-use Rattle.frame.proofs.ParseLaws.{read_ignored, read_short, read_refused, read-checked}
+use Rattle.frame.proofs.ParseLaws.{read_ignored, read_short, read_refused, read_checked}
 use Rattle.frame.proofs.ModbusFrame.request_read.Statement.{statement}
 use Rattle.frame.proofs.ModbusFrame.request_read.Tie as tie
 
@@ -29,7 +29,7 @@ returns-4 c out =
     let p = c.before.before.before in
     let e = p.check-frame-crc.ensures ∙ ap told (frame_byte _ _ _ 6 (omega arith)) in
     c.accept-read.ensures out
-    ∙ sym (read-checked _ _ _ _ out p.before.before.if1.false (omega arith) _ e c.before.enum_told.given.1)
+    ∙ sym (read_checked _ _ _ _ out p.before.before.if1.false (omega arith) _ e c.before.enum_told.given.1)
 
 pub request-read-spec : {M : Type 1} → statement M
 request-read-spec =
