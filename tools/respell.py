@@ -26,7 +26,7 @@ LAWS = set("""bit-and bit-or bit-paper byte-paper case-j case-l changes-back dat
 
 
 def texts():
-    for folder, dirs, files in sorted(os.walk("crates")):
+    for folder, dirs, files in os.walk("crates"):
         dirs[:] = sorted(d for d in dirs if d not in ("out", "must-fail", "data"))
         for name in sorted(files):
             if name.endswith((".antt", ".rt")):

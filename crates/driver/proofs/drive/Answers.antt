@@ -39,17 +39,21 @@ returns-then-n-lt2 c =
     let l = lending a.setup a.list.now a.coils.now a.discretes.now a.holdings.now a.inputs.now a.frame.now a.reply.now in
     let v = good_valid a.setup a.list.now a.coils.now a.discretes.now a.holdings.now a.inputs.now a.frame.now a.reply.now (c.bad_setup.ensures.1 c.if-bad_setup.false) in
     let r = c.no_room.ensures.1 c.if-no_room.false in
-    ap (λ (d : Driven). leaving d a.reply.now a.coils.now a.holdings.now) (c.result-then-n-lt2.ensures ∙ outcome_alone _ (omega (arith, c.if-n-lt2.true))) ∙ unopened_called l v r _ c.open-n.ensures.0 c.if-n-lt2.true
+    ap (λ (d : Driven). leaving d a.reply.now a.coils.now a.holdings.now) (c.result-then-n-lt2.ensures ∙ outcome_alone _ (omega (arith, c.if-n-lt2.true))) ∙ unopened_called l v r _ c.open-n.ensures.value c.if-n-lt2.true
 
 pub overflow_add-end : goal.overflow_add-end
 overflow_add-end c =
     let a = c.args in
     let o = c.open-n in
-    let b = opened_under (proto_of a.setup.transport) a.setup.hex a.frame.now o.result o.ensures.0 _ o.ensures.1.0 o.ensures.1.1 (omega (arith, c.if-n-lt2.false)) in
+    let b = opened_under (proto_of a.setup.transport) a.setup.hex a.frame.now o.result o.ensures.value _ o.ensures.fronted o.ensures.raw_len_unchanged (omega (arith, c.if-n-lt2.false)) in
     record { fits = omega (arith, b.4, start_most a.setup.transport, c.start_of-start.ensures) }
 
 pub slice_bounds-handle-end : goal.slice_bounds-handle-end
-slice_bounds-handle-end c = ?
+slice_bounds-handle-end c =
+    let a = c.args in
+    let o = c.open-n in
+    let b = opened_under (proto_of a.setup.transport) a.setup.hex a.frame.now o.result o.ensures.value _ o.ensures.fronted o.ensures.raw_len_unchanged (omega (arith, c.if-n-lt2.false)) in
+    rw (c.body_source-source.ensures, c.start_of-start.ensures) b.2
 
 pub handle-requires : goal.handle-requires
 handle-requires c =
@@ -58,9 +62,12 @@ handle-requires c =
     let l = lending a.setup a.list.now a.coils.now a.discretes.now a.holdings.now a.inputs.now a.frame.now a.reply.now in
     let v = good_valid a.setup a.list.now a.coils.now a.discretes.now a.holdings.now a.inputs.now a.frame.now a.reply.now (c.bad_setup.ensures.1 c.if-bad_setup.false) in
     let o = c.open-n in
-    let b = opened_under (proto_of a.setup.transport) a.setup.hex a.frame.now o.result o.ensures.0 _ o.ensures.1.0 o.ensures.1.1 (omega (arith, c.if-n-lt2.false)) in
+    let b = opened_under (proto_of a.setup.transport) a.setup.hex a.frame.now o.result o.ensures.value _ o.ensures.fronted o.ensures.raw_len_unchanged (omega (arith, c.if-n-lt2.false)) in
     let e = c.start_of-start.ensures in
-    ((part_long _ _ _ b.1 (rw (c.body_source-source.ensures, e) b.2), e, c.no_room.ensures.1 c.if-no_room.false, b.3), valid_sized l v)
+    record {
+      in_bounds = (part_long _ _ _ b.1 (rw (c.body_source-source.ensures, e) b.2), e, c.no_room.ensures.1 c.if-no_room.false, b.3);
+      sized = valid_sized l v;
+    }
 
 pub returns : goal.returns
 returns c =
@@ -70,18 +77,10 @@ returns c =
     let v = good_valid a.setup a.list.now a.coils.now a.discretes.now a.holdings.now a.inputs.now a.frame.now a.reply.now (c.bad_setup.ensures.1 c.if-bad_setup.false) in
     let r = c.no_room.ensures.1 c.if-no_room.false in
     let o = c.open-n in
-    let b = opened_under (proto_of a.setup.transport) a.setup.hex a.frame.now o.result o.ensures.0 _ o.ensures.1.0 o.ensures.1.1 (omega (arith, c.if-n-lt2.false)) in
+    let b = opened_under (proto_of a.setup.transport) a.setup.hex a.frame.now o.result o.ensures.value _ o.ensures.fronted o.ensures.raw_len_unchanged (omega (arith, c.if-n-lt2.false)) in
     let p = proto_of a.setup.transport in
     let tag = tag_of p (get_or a.frame.now 0 0) (get_or a.frame.now 1 0) in
     c.handle.ensures
     ∙ ap (λ (x : List ℕ). handled l tag x)
     (part_same _ o.result (start_of p) _ _ c.start_of-start.ensures c.body_source-source.ensures)
     ∙ opened_called l v r tag _ b.0
-
--- -- no such goal today
--- part-handle-end : tie.Need-slice-bounds-handle-end
--- part-handle-end c =
---     let a = c.before.before.before.before.before.before.before.before.before.before.before.before.before.before.before.before.before.args in
---     let o = c.before.before.before.before.open-n in
---     let b = opened_under (proto_of a.setup.transport) a.setup.hex a.frame.now o.result o.ensures.0 _ o.ensures.1.0 o.ensures.1.1 (omega (arith, c.before.before.before.if3.false)) in
---     rw (c.body-source.ensures, c.before.before.start-of.ensures) b.2

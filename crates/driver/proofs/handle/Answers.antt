@@ -9,14 +9,15 @@ use Rattle.driver.proofs.handle.Goals as goal
 pub serve-n-requires : goal.serve-n-requires
 serve-n-requires c =
     let s = c in
-    let a = c.args in (
-      (
+    let a = c.args in
+    record {
+      ready = (
         body_ready a.setup a.list.now a.coils.now a.discretes.now a.holdings.now a.inputs.now a.frame.now a.reply.now a.body.now
             (λ i. omega (arith, c.shared_slice_known-2-1.given i)) c.requires.in_bounds.0 c.requires.sized _ c.listed-broadcast.ensures _ c.judge-verdict.ensures,
         rw c.requires.in_bounds.1 (start_room (proto_of a.setup.transport) a.reply.now c.requires.in_bounds.2),
-      ),
-      c.requires.sized,
-    )
+      );
+      sized = c.requires.sized;
+    }
 
 pub close-sent-requires : goal.close-sent-requires
 close-sent-requires c =

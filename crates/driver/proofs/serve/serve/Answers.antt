@@ -13,7 +13,10 @@ write-requires c =
     let a = c.args in
     let l = lent_in a.setup a.coils.now a.discretes.now a.holdings.now a.inputs.now in
     let r = subst (Ready l a.body.now) c.in-Written.is c.requires.ready.0 in
-    (write_ready a.setup a.coils.now a.discretes.now a.holdings.now a.inputs.now a.body.now c.in-Written.w r, (c.requires.sized coils, c.requires.sized holdings))
+    record {
+      by_index = write_ready a.setup a.coils.now a.discretes.now a.holdings.now a.inputs.now a.body.now c.in-Written.w r;
+      sound = (c.requires.sized coils, c.requires.sized holdings);
+    }
 
 pub write_mask-requires : goal.write_mask-requires
 write_mask-requires c =
