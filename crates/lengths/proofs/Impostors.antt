@@ -1,13 +1,13 @@
 -- Document 01's impostor that invents a length fails the definition of the guess, and so the contract, which is that equation: a length that the
 -- frame does not tell is wrong for one of two frames.
 -- Assumes nothing.
-use mathlib.Core.Path.{◌≡◌, sym, ap, ◌∙◌}
+use mathlib.Core.Path.{◌≡◌, ap}
 use mathlib.Core.List.{List, [], ◌∷◌}
 use mathlib.Core.Logic.Dec
 use Prim.Native.Nat.{ℕ}
 use native.Mathlib.Omega.{arith}
 use native.Mathlib.Decide.{dec_le, ℕ_discrete}
-use Rattle.modbus.specs.Step.{Step, ◌>>=◌, ◌>>◌, need, choose, ◌or?◌}
+use Rattle.modbus.specs.Step.{Step, ◌>>◌, need}
 use Rattle.modbus.specs.Paper.{told}
 use Rattle.modbus.specs.declared.ErrorKind.{ErrorKind}
 use Rattle.modbus.specs.declared.ModbusProto.TheVariants.{TcpUdp}
