@@ -7,19 +7,15 @@ use Rattle.incoming.proofs.check_counted.Goals as goal
 
 pub returns-in-Rtu : goal.returns-in-Rtu
 returns-in-Rtu c =
-    let x = c in
     rw c.in-Rtu.is (c.follows.ensures ∙ sym (ap told (rtu_checked _ _ _ _ c.calc_crc16-crc.ensures)))
 
 pub returns-in-Refused : goal.returns-in-Refused
 returns-in-Refused c =
-    let x = c in
     rw c.in-Ascii.is
     (sym (ap told (ascii_short _ _ _ _ c.calc_lrc.ensures _ c.in-Refused.is)))
 
 pub returns-in-Value : goal.returns-in-Value
 returns-in-Value c =
-    let v = c in
-    let x = c in
     rw c.in-Ascii.is
     (c.follows-in-Value.ensures ∙ sym (ap told (ascii_checked _ _ _ _ c.calc_lrc.ensures _ c.in-Value.is)))
 
