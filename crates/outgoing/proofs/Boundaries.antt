@@ -2,10 +2,10 @@
 -- counts up to 255, checks over at most 255 bytes, functions up to 127, the bytes that are echoed, the largest usize.
 -- Assumes nothing.
 use mathlib.Core.Path.{◌≡◌, refl}
-use mathlib.Core.List.{List, [], ◌∷◌, ◌++◌}
+use mathlib.Core.List.{List, [], ◌∷◌}
 use Prim.Native.Nat.{ℕ}
 use native.Mathlib.Decide.{dec_le, ℕ_discrete}
-use lib.ListN.{length, replicate, take, get_or}
+use lib.ListN.{replicate, take, get_or}
 use Rattle.modbus.specs.Step.{Step, ◌>>=◌, ◌>>◌, need, choose}
 use Rattle.modbus.specs.Paper.{told}
 use Rattle.modbus.specs.Check.{shift, shifts, crc_byte, crc_from, crc, sum, lrc}

@@ -6,7 +6,7 @@ use Prim.Native.Nat.{ℕ, ◌+◌, ◌≤◌, ◌<◌}
 use native.Mathlib.Omega.{arith}
 use lib.ListN.{length}
 use lib.Seq.{sets}
-use Rattle.modbus.specs.Step.{Step, stop, go, ◌>>=◌, ◌>>◌}
+use Rattle.modbus.specs.Step.{Step, stop, go, ◌>>=◌}
 use Rattle.modbus.specs.Paper.{number, told_with, done_paper, size_paper}
 use Rattle.modbus.specs.declared.ErrorKind.{ErrorKind}
 use Rattle.modbus.specs.declared.ErrorKind.TheVariants.{OOB}

@@ -6,7 +6,7 @@ use Prim.Native.Nat.{ℕ, ◌+◌, ◌-◌, ◌/◌, ◌%◌, ◌≤◌, ◌<◌
 use native.Mathlib.Omega.{arith}
 use lib.ListN.{length, take, drop}
 use lib.Seq.{sets}
-use Rattle.modbus.specs.Step.{Step, stop, go, ◌>>=◌, ◌>>◌, need, ◌≤?◌}
+use Rattle.modbus.specs.Step.{Step, stop, go, ◌>>◌, need, ◌≤?◌}
 use Rattle.modbus.specs.Check.{crc, lrc}
 use Rattle.modbus.specs.Request.{exception}
 use Rattle.modbus.specs.Paper.{told, done_paper}

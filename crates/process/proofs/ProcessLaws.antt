@@ -7,8 +7,6 @@ use Prim.Native.Nat.{ℕ, ◌+◌, ◌-◌, ◌≤◌, ◌<◌}
 use native.Mathlib.Omega.{arith}
 use lib.Dec.{eqb}
 use lib.ListN.{length, get_or, take, drop}
-use types.Run.{OneOf, miss}
-use denote.Enum.Declared.{tag_of}
 use Rattle.modbus.specs.Step.{Step, stop, go, ◌>>=◌, choose, ◌≟◌}
 use Rattle.modbus.specs.Table.{Kind, bit, Tab, target}
 use Rattle.modbus.specs.Ported.{Ported, reads}
@@ -22,7 +20,6 @@ use Rattle.modbus.specs.declared.SizeAnswer.{SizeAnswer}
 use Rattle.modbus.specs.declared.SizeAnswer.TheVariants as size
 use Rattle.modbus.proofs.StepLaws.{pass, fail, follow, halt, bound, needed, pick_yes, pick_no}
 use Rattle.modbus.proofs.PaperLaws.{told_same, value_with, refusal_with}
-use Rattle.modbus.specs.contracts.ErrorKind.{the_type}
 use Rattle.tables.specs.Calls.{added, changed}
 use Rattle.tables.specs.Lent.{Lent}
 use Rattle.outgoing.specs.Grow.{Response, response, Short, growth, grown_paper, reached, head, except, seal}
@@ -59,17 +56,12 @@ pub data_outside : (s t : ModbusFrame) (k : ErrorKind) (n : ℕ) → k ≡ OOBCo
     → t ≡ with_error 2 (grown n s) → done_of t ≡ data_left s (size.Refused k)
 data_outside s t k n e p q = rw (q, p) (sym (pick_yes _ _ _ (ap number e)))
 
--- where the other kinds stand among their variants
-abbrev others : List ℕ
-others = 0 ∷ 2 ∷ 3 ∷ 4 ∷ 5 ∷ 6 ∷ []
-
-pub data_refused : (s : ModbusFrame) (k : ErrorKind) → OneOf others (tag_of the_type k)
-    → refused_of k s ≡ data_left s (size.Refused k)
+-- k is any other kind
+pub data_refused : (s : ModbusFrame) (k : ErrorKind) → ¬ (k ≡ OOBContext) → refused_of k s ≡ data_left s (size.Refused k)
 data_refused s k h =
     sym (pick_no _ _ _ (λ (e : number k ≡ number OOBContext).
     let p = told_same (stop k) (stop OOBContext) (ap (λ (n : ℕ). (n, 0)) e) in
-    let q : k ≡ OOBContext = cc in
-    miss others 1 tt (rw q at h)))
+    h cc))
 
 -- what is left after a refusal, with the slice
 refused_left : {P : Type 0} (d : Dec P) (s t : ModbusFrame) (k : ErrorKind) (out : List ℕ)

@@ -1,0 +1,25 @@
+-- `frame::ModbusFrame::request_read` meets its contract: each way out is a law of a read.
+-- Assumes nothing.
+use mathlib.Core.Path.{sym, ap, ◌∙◌}
+use native.Mathlib.Omega.{arith}
+use Rattle.modbus.specs.Paper.{told}
+use Rattle.incoming.proofs.EnvelopeLaws.{frame_byte}
+use Rattle.frame.proofs.StateLaws.{left}
+use Rattle.frame.proofs.ParseLaws.{read_short, read_refused, read-checked}
+use Rattle.frame.proofs.ModbusFrame.request_read.Goals as goal
+
+pub returns-then-buf-start-lt6 : goal.returns-then-buf-start-lt6
+returns-then-buf-start-lt6 c out =
+    left out c.refused.ensures ∙ sym (read_short _ _ _ _ out c.if-broadcast.false (omega arith))
+
+pub returns-in-Refused : goal.returns-in-Refused
+returns-in-Refused c out =
+    let e = c.check_frame_crc.ensures ∙ ap told (frame_byte _ _ _ 6 (omega arith)) in
+    left out c.refused-in-Refused.ensures
+    ∙ sym (read_refused _ _ _ _ out c.if-broadcast.false (omega arith) _ e _ c.in-Refused.is)
+
+pub returns-in-Done : goal.returns-in-Done
+returns-in-Done c out =
+    let e = c.check_frame_crc.ensures ∙ ap told (frame_byte _ _ _ 6 (omega arith)) in
+    c.accept_read.ensures out
+    ∙ sym (read-checked _ _ _ _ out c.if-broadcast.false (omega arith) _ e c.in-Done.is)

@@ -1,0 +1,16 @@
+-- `outgoing::head` meets its contract: the byte count is added where the rest was.
+-- Assumes nothing.
+use mathlib.Core.Path.{sym, ap, ◌∙◌}
+use Rattle.outgoing.specs.Grow.{growth, byte_counted}
+use Rattle.outgoing.proofs.GrowLaws.{goes_on, ends_there}
+use Rattle.outgoing.proofs.head.Goals as goal
+
+pub returns-in-Refused : goal.returns-in-Refused
+returns-in-Refused c =
+    ends_there _ (byte_counted c.args.bytes) c.begin-b.result _ _ c.begin-b.ensures c.in-Refused.is
+
+pub returns-in-Done : goal.returns-in-Done
+returns-in-Done c =
+    c.byte_count.ensures
+    ∙ sym (ap growth (goes_on _ (byte_counted c.args.bytes) c.begin-b.result _ c.begin-b.ensures
+    c.in-Done.is))

@@ -1,0 +1,15 @@
+-- `process::writes::data_held` meets its contract.
+-- Assumes nothing.
+use mathlib.Core.Path.{sym, ap, ◌∙◌}
+use Rattle.modbus.specs.Paper.{told}
+use Rattle.process.proofs.ProcessLaws.{held_unread, held_behind}
+use Rattle.process.proofs.writes.data_held.Goals as goal
+
+pub returns-in-Refused : goal.returns-in-Refused
+returns-in-Refused c =
+    sym (ap told (held_unread _ _ _ c.reach.ensures _ c.in-Refused.is))
+
+pub returns-in-Done : goal.returns-in-Done
+returns-in-Done c =
+    c.data_behind.ensures
+    ∙ sym (ap told (held_behind _ _ _ c.reach.ensures c.in-Done.is))
