@@ -9,7 +9,7 @@ ghost use Rattle.logs.specs.Log.{peeked};
 use octets::word;
 
 // Where the log stands, and what was counted up to there: records, frames, bytes inside frames, and the others.
-#[derive(Drop)]
+#[derive(Clone, Copy)]
 pub struct Total {
     pub at: u64,
     pub records: u64,
@@ -19,7 +19,7 @@ pub struct Total {
 }
 
 // What stands at the front of a log of which more may come: a fault, not enough to tell, or a whole record with so many bytes.
-#[derive(Drop)]
+#[derive(Clone, Copy)]
 pub enum Peek {
     BadMark,
     BadRecord,
@@ -29,7 +29,7 @@ pub enum Peek {
 }
 
 // What a log comes to: the four totals, or its first fault and where.
-#[derive(Drop)]
+#[derive(Clone, Copy)]
 pub enum Report {
     Totals(u64, u64, u64, u64),
     BadMark(u64),
@@ -38,7 +38,7 @@ pub enum Report {
 }
 
 // How many frames stand in a record, and how many of its bytes they take.
-#[derive(Drop)]
+#[derive(Clone, Copy)]
 pub struct Counted {
     pub frames: usize,
     pub inside: usize,
