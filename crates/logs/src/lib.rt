@@ -44,6 +44,9 @@ pub struct Counted {
     pub inside: usize,
 }
 
+// How many bytes a record may have.
+const RECORD_MOST: usize = 4096;
+
 // `at` is the offset of the log's first byte that is left.
 pub fn look(at: u64, log: &[u8]) -> Peek
     ensures { result ≡ peeked at log.now }
@@ -64,7 +67,7 @@ pub fn look(at: u64, log: &[u8]) -> Peek
         return Peek::More;
     }
     let n = word(log, 2) as usize;
-    if 4096 < n {
+    if RECORD_MOST < n {
         return Peek::BadRecord;
     }
     if log.len() < 4 + n {
