@@ -4,7 +4,7 @@ use mathlib.Core.Logic.{inl, inr, ⊎_elim}
 use mathlib.Core.Path.{sym, ap, ◌∙◌}
 use native.Mathlib.Omega.{arith}
 use Rattle.logs.specs.declared.Peek.TheVariants.{Whole}
-use Rattle.logs.proofs.LogLaws.{peek_mark, peek_few, peek-large, peek-cut, peek-long, peek-whole}
+use Rattle.logs.proofs.LogLaws.{peek_mark, peek_few, peek_large, peek_cut, peek_long, peek_whole}
 use Rattle.logs.proofs.look.Goals as goal
 
 pub returns-then-log-eq0 : goal.returns-then-log-eq0
@@ -29,20 +29,20 @@ returns-then-log-lt4 c =
 
 pub returns-then-n-gt-RECORD_MOST : goal.returns-then-n-gt-RECORD_MOST
 returns-then-n-gt-RECORD_MOST c =
-    let w = c.word-n.ensures in sym (peek-large _ _ (inr c.if-log-ne77.false, inr c.if-log-ne66.false) (omega arith) (λ h. omega (arith, w, h)))
+    let w = c.word-n.ensures in sym (peek_large _ _ (inr c.if-log-ne77.false, inr c.if-log-ne66.false) (omega arith) (λ h. omega (arith, w, h)))
 
 pub returns-then-log-n : goal.returns-then-log-n
 returns-then-log-n c =
-    let w = c.word-n.ensures in sym (peek-cut _ _ (inr c.if-log-ne77.false, inr c.if-log-ne66.false) (omega arith) (omega (arith, w)) (λ h. omega (arith, w, h)))
+    let w = c.word-n.ensures in sym (peek_cut _ _ (inr c.if-log-ne77.false, inr c.if-log-ne66.false) (omega arith) (omega (arith, w)) (λ h. omega (arith, w, h)))
 
 pub returns-then-at-gt4294967295 : goal.returns-then-at-gt4294967295
 returns-then-at-gt4294967295 c =
-    let w = c.word-n.ensures in sym (peek-long _ _ (inr c.if-log-ne77.false, inr c.if-log-ne66.false) (omega arith) (omega (arith, w)) (omega (arith, w)) (λ h. omega (arith, w, h)))
+    let w = c.word-n.ensures in sym (peek_long _ _ (inr c.if-log-ne77.false, inr c.if-log-ne66.false) (omega arith) (omega (arith, w)) (omega (arith, w)) (λ h. omega (arith, w, h)))
 
 pub returns-then-at-n-gt4294967295 : goal.returns-then-at-n-gt4294967295
 returns-then-at-n-gt4294967295 c =
-    let w = c.word-n.ensures in sym (peek-long _ _ (inr c.if-log-ne77.false, inr c.if-log-ne66.false) (omega arith) (omega (arith, w)) (omega (arith, w)) (λ h. omega (arith, w, h)))
+    let w = c.word-n.ensures in sym (peek_long _ _ (inr c.if-log-ne77.false, inr c.if-log-ne66.false) (omega arith) (omega (arith, w)) (omega (arith, w)) (λ h. omega (arith, w, h)))
 
 pub returns : goal.returns
 returns c =
-    let w = c.word-n.ensures in ap Whole w ∙ sym (peek-whole _ _ (inr c.if-log-ne77.false, inr c.if-log-ne66.false) (omega arith) (omega (arith, w)) (omega (arith, w)) (omega (arith, w)))
+    let w = c.word-n.ensures in ap Whole w ∙ sym (peek_whole _ _ (inr c.if-log-ne77.false, inr c.if-log-ne66.false) (omega arith) (omega (arith, w)) (omega (arith, w)) (omega (arith, w)))
