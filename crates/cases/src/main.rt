@@ -9,6 +9,7 @@ ghost use Rattle.std.specs.Prelude.{◌≤◌};
 
 use records::Tally;
 use records::parts::{lay, stands};
+use std::io::{Stdin, Stdout};
 
 // Room for tables of one cell more than there may be, and for every reply buffer of the list.
 const BITS: usize = 8193;
@@ -170,26 +171,26 @@ fn agrees(record: &[u8]) -> bool {
 
 // A proved loop has to end, and nothing says that the list does. So the loop counts its turns, up to a number that no
 // list reaches.
-fn run(text: &mut [u8], record: &mut [u8]) -> Tally {
+fn run(input: Stdin, out: Stdout, text: &mut [u8], record: &mut [u8]) -> Tally {
     let mut s = records::start();
     let mut t = Tally {
         records: 0,
         wrong: 0,
     };
     for _ in 0..1000000u32 {
-        s = records::next(text, record, s);
+        s = records::next(input, text, record, s);
         if !s.whole {
             return t;
         }
         let len = s.len;
-        t = records::judged(t, agrees(&record[..len]));
+        t = records::judged(out, t, agrees(&record[..len]));
     }
     t
 }
 
-fn main() {
-    let mut text = io::buffer();
-    let mut record = io::buffer();
-    let t = run(&mut text, &mut record);
-    records::report(t, b"cases of document 01 run: ", b"cases that differ: ");
+fn main(rt: HostRuntime) {
+    let mut text = [0; 4096];
+    let mut record = [0; 4096];
+    let t = run(rt.stdin(), rt.stdout(), &mut text, &mut record);
+    records::report(rt.stdout(), t, b"cases of document 01 run: ", b"cases that differ: ");
 }

@@ -205,5 +205,5 @@ pub(crate) fn agrees(record: &[u8], bits: &mut [u8], words: &mut [u8], lent: &mu
     if !served(record, bits, words, &mut lent[..m]) {
         return false;
     }
-    check::same(&lent[..m], part(record, 3))
+    &lent[..m] == part(record, 3)
 }

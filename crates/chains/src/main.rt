@@ -9,10 +9,13 @@ mod said;
 mod state;
 
 use records::Tally;
+use std::io::{Stdin, Stdout};
 
 // A proved loop has to end, and nothing says that the list does. So the loop counts its turns, up to a number that no
 // list reaches.
 fn run(
+    input: Stdin,
+    out: Stdout,
     text: &mut [u8],
     record: &mut [u8],
     bits: &mut [u8],
@@ -25,22 +28,22 @@ fn run(
         wrong: 0,
     };
     for _ in 0..1000000000u32 {
-        s = records::next(text, record, s);
+        s = records::next(input, text, record, s);
         if !s.whole {
             return t;
         }
         let len = s.len;
-        t = records::judged(t, calls::agrees(&record[..len], bits, words, lent));
+        t = records::judged(out, t, calls::agrees(&record[..len], bits, words, lent));
     }
     t
 }
 
-fn main() {
-    let mut text = io::buffer();
-    let mut record = io::buffer();
-    let mut lent = io::buffer();
+fn main(rt: HostRuntime) {
+    let mut text = [0; 4096];
+    let mut record = [0; 4096];
+    let mut lent = [0; 4096];
     let mut bits = [0; calls::BITS];
     let mut words = [0; calls::WORDS];
-    let t = run(&mut text, &mut record, &mut bits, &mut words, &mut lent);
-    records::report(t, b"calls of the frame replayed: ", b"calls that differ: ");
+    let t = run(rt.stdin(), rt.stdout(), &mut text, &mut record, &mut bits, &mut words, &mut lent);
+    records::report(rt.stdout(), t, b"calls of the frame replayed: ", b"calls that differ: ");
 }

@@ -10,7 +10,7 @@ use crate::index::count_record;
 use logs::{Peek, Report, Total, look};
 
 // The whole records at the front of a piece: the totals with them, the bytes that they take, and what stands behind them.
-#[derive(Drop)]
+#[derive(Clone, Copy)]
 pub(crate) struct Part {
     pub total: Total,
     pub used: usize,

@@ -10,6 +10,9 @@ ghost use Rattle.linecount.specs.Sums.{power, Powers, Tables, Room, Sums, Counts
 use logs::Counted;
 use std::num::wrapping_sub_usize;
 
+// How many bytes the longest frame has more than the shortest.
+const LONGER: usize = 252;
+
 fn wide(x: u8) -> usize
     ensures { (result ≡ x) × (result < 256) }
 {
@@ -52,7 +55,7 @@ fn counted(sums: &[u16], counts: &[u32], k: usize, h: usize, w: u16, next: u32) 
     requires { (k < length sums.now) × (k < length counts.now) × (k ≤ 4096) × (h < 65536) × ((j : ℕ) → j < k → slice_index counts.now j ≤ 268439552) }
     ensures { result ≡ choose (reaches? sums.now k h w) (slice_index counts.now h + (65536 + (k - h))) next }
 {
-    if 252 < wrapping_sub_usize(k, h + 4) {
+    if LONGER < wrapping_sub_usize(k, h + 4) {
         return next;
     }
     if sums[h] != w {

@@ -10,9 +10,8 @@ mod voice;
 ghost use Rattle.std.specs.Prelude.{◌≡◌, length};
 ghost use Rattle.linecount.specs.Sums.{Tables, Room};
 
-use libc::STDERR_FILENO;
-
 fn run(
+    rt: &HostRuntime,
     buf: &mut [u8],
     powers: &[u16],
     openings: &[u16],
@@ -22,24 +21,28 @@ fn run(
 )
     requires { (length buf.old ≡ 65536) × Tables powers.now openings.now × Room sums.old nearest.old counts.old }
 {
-    let s = reading::read_log(buf, powers, openings, sums, nearest, counts);
+    let s = reading::read_log(rt, buf, powers, openings, sums, nearest, counts);
     if s.failed {
-        io::write_all(STDERR_FILENO, b"linecount: cannot read\n");
+        let _ = eprintln!(rt; "linecount: cannot read");
         return;
     }
     let have = s.have;
     let total = s.total;
-    voice::say(count::finish(total, &buf[..have], powers, openings, sums, nearest, counts));
+    voice::say(
+        rt,
+        count::finish(total, &buf[..have], powers, openings, sums, nearest, counts),
+    );
 }
 
-fn main() {
+fn main(rt: HostRuntime) {
     let powers = tables::powers();
     let openings = tables::openings();
     let mut sums = tables::sums();
     let mut nearest = tables::places();
     let mut counts = tables::counts();
-    let mut buf = io::large_buffer();
+    let mut buf = reading::buffer();
     run(
+        &rt,
         &mut buf,
         &powers,
         &openings,

@@ -6,16 +6,23 @@ ghost use Rattle.linecount.specs.Reading.{Continues, Settled, is_more};
 
 use crate::count::count_part;
 use crate::voice;
-use libc::STDIN_FILENO;
 use logs::{Peek, Total};
+use std::io::{Read, Stdin};
 
 // Where the reading stands: the totals, how many bytes wait, whether more is to be read, and whether a read has failed.
-#[derive(Drop)]
+#[derive(Clone, Copy)]
 pub(crate) struct Reading {
     pub total: Total,
     pub have: usize,
     pub more: bool,
     pub failed: bool,
+}
+
+// Room for a read, which is more than a record that is not whole yet.
+pub(crate) fn buffer() -> [u8; 65536]
+    ensures { 65536 ≡ length result }
+{
+    [0; 65536]
 }
 
 fn opening() -> Reading
@@ -85,6 +92,7 @@ fn take_in(
 
 // One read more. There is room for it: a read into none would look like the end of the log.
 fn turn(
+    input: Stdin,
     buf: &mut [u8],
     s: Reading,
     powers: &[u16],
@@ -97,14 +105,13 @@ fn turn(
     ensures { (result.have ≤ length buf.new) × Sound result.total × (result.more ≡ true → result.have < 4100) × (result.more ≡ true → s.total.at + s.have < result.total.at + result.have) }
 {
     let have = s.have;
-    let got = libc::read(STDIN_FILENO, &mut buf[have..]);
+    let mut input = input;
     let mut t = s;
     t.more = false;
-    if got < 0 {
+    let Ok(n) = input.read(&mut buf[have..]) else {
         t.failed = true;
         return t;
-    }
-    let n = io::count(got, &buf[have..]);
+    };
     if n == 0 {
         return t;
     }
@@ -124,6 +131,7 @@ fn turn(
 // Reads until the log ends or a fault is met. A proved loop has to end, and nothing says that the input does: every turn but the last reads a byte
 // or more, and not more than 4,294,971,394 bytes are taken in before a log is refused as too long.
 pub(crate) fn read_log(
+    rt: &HostRuntime,
     buf: &mut [u8],
     powers: &[u16],
     openings: &[u16],
@@ -135,15 +143,15 @@ pub(crate) fn read_log(
     ensures { (result.have ≤ length buf.new) × Sound result.total × (result.more ≡ false) }
 {
     let mut s = opening();
-    let mut watch = voice::begin();
+    let mut watch = voice::begin(rt);
     for _ in 0..4294971395u64 {
         if !s.more {
-            voice::end(watch);
+            voice::end(rt, watch);
             return s;
         }
-        s = turn(buf, s, powers, openings, sums, nearest, counts);
+        s = turn(rt.stdin(), buf, s, powers, openings, sums, nearest, counts);
         let total = s.total;
-        watch = voice::tell(watch, total);
+        watch = voice::tell(rt, watch, total);
     }
     s
 }

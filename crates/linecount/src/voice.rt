@@ -1,67 +1,68 @@
 // What is printed: the totals or the fault on standard output, and how far the count is on a terminal.
-use libc::{STDERR_FILENO, STDOUT_FILENO};
 use logs::{Report, Total};
+use std::io::{IsTerminal, Write};
+use std::time::Clock;
 
-fn line(what: &[u8], n: u64) {
-    io::write_all(STDOUT_FILENO, what);
-    io::print_decimal(STDOUT_FILENO, n);
-    io::write_all(STDOUT_FILENO, b"\n");
+fn line(rt: &HostRuntime, what: &str, n: u64) {
+    let _ = println!(rt; "{what} {n}");
 }
 
-pub(crate) fn say(r: Report) {
+// What cannot be written is let go: the status is 0, whatever comes.
+pub(crate) fn say(rt: &HostRuntime, r: Report) {
     match r {
         Report::Totals(records, frames, inside, other) => {
-            line(b"records ", records);
-            line(b"frames ", frames);
-            line(b"frame bytes ", inside);
-            line(b"other bytes ", other);
+            line(rt, "records", records);
+            line(rt, "frames", frames);
+            line(rt, "frame bytes", inside);
+            line(rt, "other bytes", other);
         }
-        Report::BadMark(at) => line(b"bad mark at ", at),
-        Report::BadRecord(at) => line(b"bad record at ", at),
+        Report::BadMark(at) => line(rt, "bad mark at", at),
+        Report::BadRecord(at) => line(rt, "bad record at", at),
         Report::TooLong => {
-            io::write_all(STDOUT_FILENO, b"too long\n");
+            let _ = println!(rt; "too long");
         }
     }
 }
 
 // The second in which something was last told, whether a whole one has begun since the start, and whether a line stands on the terminal.
-#[derive(Drop)]
+#[derive(Clone, Copy)]
 pub(crate) struct Watch {
     terminal: bool,
-    second: i64,
+    second: u64,
     begun: bool,
     told: bool,
 }
 
-fn second() -> i64 {
-    let mut t = 0i64;
-    libc::time(&mut t)
+// A clock that cannot be read stands still.
+fn second(rt: &HostRuntime) -> u64 {
+    match rt.since_1970() {
+        Ok(t) => t.as_secs(),
+        Err(_) => 0,
+    }
 }
 
-pub(crate) fn begin() -> Watch {
+pub(crate) fn begin(rt: &HostRuntime) -> Watch {
     Watch {
-        terminal: libc::isatty(STDERR_FILENO) == 1,
-        second: second(),
+        terminal: rt.stderr().is_terminal(),
+        second: second(rt),
         begun: false,
         told: false,
     }
 }
 
 // On a terminal, once a second, from the second second on: how far the log is counted. The line is written over.
-pub(crate) fn tell(w: Watch, total: Total) -> Watch {
+pub(crate) fn tell(rt: &HostRuntime, w: Watch, total: Total) -> Watch {
     if !w.terminal {
         return w;
     }
-    let now = second();
+    let now = second(rt);
     if now == w.second {
         return w;
     }
     if w.begun {
-        io::write_all(STDERR_FILENO, b"\rlinecount: ");
-        io::print_decimal(STDERR_FILENO, total.at);
-        io::write_all(STDERR_FILENO, b" bytes, ");
-        io::print_decimal(STDERR_FILENO, total.frames);
-        io::write_all(STDERR_FILENO, b" frames");
+        let at = total.at;
+        let frames = total.frames;
+        let _ = eprint!(rt; "\rlinecount: {at} bytes, {frames} frames");
     }
     Watch {
         terminal: true,
@@ -71,8 +72,8 @@ pub(crate) fn tell(w: Watch, total: Total) -> Watch {
     }
 }
 
-pub(crate) fn end(w: Watch) {
+pub(crate) fn end(rt: &HostRuntime, w: Watch) {
     if w.told {
-        io::write_all(STDERR_FILENO, b"\n");
+        let _ = eprintln!(rt;);
     }
 }

@@ -21,7 +21,7 @@ pub counting_end : (k : ℕ) (l : List ℕ) (s : ℕ) → length l ≤ s → cou
 unfolding counting
 counting_end zero l s h = refl
 counting_end (suc k) l s h =
-    search_cases l s (λ a n p e. absurd (omega (arith, p.after, p.least, p.inside))) (λ p e. behind_none _ _ e)
+    search_cases l s (λ a n p e. absurd (omega (arith, p.after, p.least, p.inside))) (λ p e. behind_none (counting k l) _ e)
 
 -- more fuel than bytes changes nothing
 pub enough : (k j : ℕ) (l : List ℕ) (s : ℕ) → length l - s ≤ k → length l - s ≤ j → counting k l s ≡ counting j l s
@@ -30,8 +30,8 @@ enough zero j l s a b = sym (counting_end j l s (omega arith))
 enough (suc k) zero l s a b = counting_end (suc k) l s (omega arith)
 enough (suc k) (suc j) l s a b =
     search_cases l s
-    (λ t n p e. behind_stood _ _ t n e ∙ ap (more n) (enough k j l (t + n) (omega (arith, p.after, p.least)) (omega (arith, p.after, p.least))) ∙ sym (behind_stood _ _ t n e))
-    (λ p e. behind_none _ _ e ∙ sym (behind_none _ _ e))
+    (λ t n p e. behind_stood (counting k l) _ t n e ∙ ap (more n) (enough k j l (t + n) (omega (arith, p.after, p.least)) (omega (arith, p.after, p.least))) ∙ sym (behind_stood (counting j l) _ t n e))
+    (λ p e. behind_none (counting k l) _ e ∙ sym (behind_none (counting j l) _ e))
 
 zero_fuel : (l : List ℕ) (s : ℕ) → counting zero l s ≡ counted 0 0
 unfolding counting
@@ -39,11 +39,11 @@ zero_fuel l s = refl
 
 suc_none : (k : ℕ) (l : List ℕ) (s : ℕ) → first_in l s ≡ none → counting (suc k) l s ≡ counted 0 0
 unfolding counting
-suc_none k l s e = behind_none _ _ e
+suc_none k l s e = behind_none (counting k l) _ e
 
 suc_stood : (k : ℕ) (l : List ℕ) (s t n : ℕ) → first_in l s ≡ stood t n → counting (suc k) l s ≡ more n (counting k l (t + n))
 unfolding counting
-suc_stood k l s t n e = behind_stood _ _ t n e
+suc_stood k l s t n e = behind_stood (counting k l) _ t n e
 
 pub rest_none : (l : List ℕ) (s : ℕ) → first_in l s ≡ none → rest l s ≡ counted 0 0
 rest_none l s e = by_fuel (length l - s)

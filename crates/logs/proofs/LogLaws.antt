@@ -3,14 +3,14 @@
 use mathlib.Core.Logic.{inl, inr, ⊎_elim, ◌⊎◌, by_cases}
 use mathlib.Core.Path.{◌≡◌, refl, sym, ap, ap₂, ◌∙◌}
 use mathlib.Core.List.{List, [], ◌∷◌, ◌++◌}
-use Prim.Native.Nat.{ℕ, zero, suc, ◌+◌, ◌-◌, ◌*◌, ◌≤◌, ◌<◌}
+use Prim.Native.Nat.{ℕ, zero, suc, ◌+◌, ◌*◌, ◌≤◌, ◌<◌}
 use native.Mathlib.Omega.{arith}
 use lib.ListN.{length, take, drop, get_or, length-append, length-drop, get_or-append}
 use lib.Seq.{drop-append-le, take-append-le, length-take-le}
 use Rattle.modbus.specs.Step.{◌≤?◌}
 use Rattle.modbus.specs.Bytes.{word_at}
 use Rattle.modbus.proofs.StepLaws.{pass, fail}
-use Rattle.logs.specs.Log.{counted_in, counted, more, behind, rest, Marked, marked?, weighed, seen_as, peeked, advanced, Sound, go_on, tally, report}
+use Rattle.logs.specs.Log.{counted_in, Marked, marked?, weighed, seen_as, peeked, advanced, Sound, go_on, tally, report}
 use Rattle.logs.specs.declared.Counted.{Counted}
 use Rattle.logs.specs.declared.Total.{Total}
 use Rattle.logs.specs.declared.Peek.{Peek}

@@ -9,7 +9,7 @@ ghost use Rattle.logs.specs.Log.{peeked};
 use octets::word;
 
 // Where the log stands, and what was counted up to there: records, frames, bytes inside frames, and the others.
-#[derive(Drop)]
+#[derive(Clone, Copy)]
 pub struct Total {
     pub at: u64,
     pub records: u64,
@@ -19,7 +19,7 @@ pub struct Total {
 }
 
 // What stands at the front of a log of which more may come: a fault, not enough to tell, or a whole record with so many bytes.
-#[derive(Drop)]
+#[derive(Clone, Copy)]
 pub enum Peek {
     BadMark,
     BadRecord,
@@ -29,7 +29,7 @@ pub enum Peek {
 }
 
 // What a log comes to: the four totals, or its first fault and where.
-#[derive(Drop)]
+#[derive(Clone, Copy)]
 pub enum Report {
     Totals(u64, u64, u64, u64),
     BadMark(u64),
@@ -38,11 +38,14 @@ pub enum Report {
 }
 
 // How many frames stand in a record, and how many of its bytes they take.
-#[derive(Drop)]
+#[derive(Clone, Copy)]
 pub struct Counted {
     pub frames: usize,
     pub inside: usize,
 }
+
+// How many bytes a record may have.
+const RECORD_MOST: usize = 4096;
 
 // `at` is the offset of the log's first byte that is left.
 pub fn look(at: u64, log: &[u8]) -> Peek
@@ -64,7 +67,7 @@ pub fn look(at: u64, log: &[u8]) -> Peek
         return Peek::More;
     }
     let n = word(log, 2) as usize;
-    if 4096 < n {
+    if RECORD_MOST < n {
         return Peek::BadRecord;
     }
     if log.len() < 4 + n {

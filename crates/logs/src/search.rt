@@ -7,7 +7,7 @@ ghost use Rattle.logs.specs.Search.{first_in, paper, ends?};
 use checks::crc_byte;
 use octets::least;
 
-#[derive(Drop)]
+#[derive(Clone, Copy)]
 pub enum Found {
     At(usize, usize),
     Nothing,

@@ -24,7 +24,7 @@ part_start l lengths parts (suc k) = part_start l lengths parts k + length_of l 
 abbrev pub cut_of : Bor (List ℕ) → ℕ → ℕ → List ℕ × (ℕ × ℕ)
 cut_of t from len =
     choose (from + len ≤? length t.now) (take len (drop from t.now), (t.ref_ptr.0, from + t.ref_ptr.1))
-    ([], (t.ptr.0, 0 + t.ptr.1))
+    ([], (t.ref_ptr.0, 0 + t.ref_ptr.1))
 
 abbrev pub part_of : Bor (List ℕ) → ℕ → ℕ → ℕ → List ℕ × (ℕ × ℕ)
 part_of t lengths parts k = cut_of t (part_start t.now lengths parts k) (length_of t.now lengths k)

@@ -8,11 +8,11 @@ ghost use Rattle.std.specs.Prelude.{◌≡◌, ◌≤◌, true, false, length};
 ghost use Rattle.modbus.specs.Step.{choose, ◌≟◌};
 ghost use Rattle.records.specs.Counted.{opening, tallied};
 
-use libc::{STDIN_FILENO, STDOUT_FILENO};
 use modbus::ByteAnswer;
+use std::io::{Read, Stdin, Stdout, Write};
 
 // Where the reading stands: in the text that was read last, and in the line.
-#[derive(Drop)]
+#[derive(Clone, Copy)]
 pub struct Reading {
     at: usize,
     have: usize,
@@ -114,11 +114,26 @@ fn taken(record: &mut [u8], s: Reading, c: u8) -> Reading
     digit(record, s, c)
 }
 
+// Reads until the text is full, the input ends or a read fails. Answers how many bytes stand at its front then.
+fn filled(input: Stdin, text: &mut [u8]) -> usize
+    ensures { result ≤ length text.new }
+{
+    let mut input = input;
+    let mut done = 0;
+    while done < text.len() {
+        match input.read(&mut text[done..]) {
+            Ok(0) | Err(_) => break,
+            Ok(n) => done += n,
+        }
+    }
+    done
+}
+
 // More text. The end of the input ends its last line.
-fn refilled(text: &mut [u8], s: Reading) -> Reading
+fn refilled(input: Stdin, text: &mut [u8], s: Reading) -> Reading
     ensures { result.len ≤ s.len }
 {
-    let n = io::read_full(STDIN_FILENO, text);
+    let n = filled(input, text);
     if n == 0 {
         let mut t = closed(s);
         t.ended = true;
@@ -131,16 +146,16 @@ fn refilled(text: &mut [u8], s: Reading) -> Reading
 }
 
 // One character more, or more text where there is none left.
-fn step(text: &mut [u8], record: &mut [u8], s: Reading) -> Reading
+fn step(input: Stdin, text: &mut [u8], record: &mut [u8], s: Reading) -> Reading
     requires { s.len ≤ length «record».old }
     ensures { result.len ≤ length «record».new }
 {
     let at = s.at;
     if s.have <= at {
-        return refilled(text, s);
+        return refilled(input, text, s);
     }
     if text.len() <= at {
-        return refilled(text, s);
+        return refilled(input, text, s);
     }
     let mut t = s;
     t.at = at + 1;
@@ -149,7 +164,7 @@ fn step(text: &mut [u8], record: &mut [u8], s: Reading) -> Reading
 
 // The next record, at the front of `record`; not whole where the list has ended. A proved loop has to end, and nothing
 // says that the input does: so the loop counts its turns, up to a number that no line reaches.
-pub fn next(text: &mut [u8], record: &mut [u8], s: Reading) -> Reading
+pub fn next(input: Stdin, text: &mut [u8], record: &mut [u8], s: Reading) -> Reading
     ensures { result.len ≤ length «record».new }
 {
     let mut t = fresh(s);
@@ -157,20 +172,20 @@ pub fn next(text: &mut [u8], record: &mut [u8], s: Reading) -> Reading
         if t.whole || t.ended {
             return t;
         }
-        t = step(text, record, t);
+        t = step(input, text, record, t);
     }
     t
 }
 
 // How many records were run, and how many of them were answered otherwise.
-#[derive(Drop)]
+#[derive(Clone, Copy)]
 pub struct Tally {
     pub records: u64,
     pub wrong: u64,
 }
 
 // One record more; where it was not right, it is named by its number.
-pub fn judged(t: Tally, right: bool) -> Tally
+pub fn judged(out: Stdout, t: Tally, right: bool) -> Tally
     ensures { result ≡ tallied t right }
 {
     let mut u = t;
@@ -178,24 +193,24 @@ pub fn judged(t: Tally, right: bool) -> Tally
     if right {
         return u;
     }
-    say(b"differs: record ", u.records);
+    say(out, b"differs: record ", u.records);
     u.wrong = std::num::wrapping_add_u64(t.wrong, 1);
     u
 }
 
-// A line on standard output.
-fn say(what: &[u8], n: u64) {
-    io::write_all(STDOUT_FILENO, what);
-    io::print_decimal(STDOUT_FILENO, n);
-    io::write_all(STDOUT_FILENO, b"\n");
+// A line on standard output. What cannot be written is let go.
+fn say(out: Stdout, what: &[u8], n: u64) {
+    let mut out = out;
+    let _ = out.write_all(what);
+    let _ = writeln!(out, "{n}");
 }
 
 // Says how many records were run, and how many of them were answered otherwise; whether none was.
-pub fn report(t: Tally, run: &[u8], differ: &[u8]) -> bool
+pub fn report(out: Stdout, t: Tally, run: &[u8], differ: &[u8]) -> bool
     ensures { result ≡ choose (t.wrong ≟ 0) true false }
 {
-    say(run, t.records);
-    say(differ, t.wrong);
+    say(out, run, t.records);
+    say(out, differ, t.wrong);
     if t.wrong != 0 {
         return false;
     }

@@ -4,6 +4,7 @@
 
 use modbus::{Answer, ProtoAnswer};
 use records::Tally;
+use std::io::{Stdin, Stdout};
 
 // The bytes of a record before its input.
 const HEAD: usize = 11;
@@ -61,7 +62,7 @@ fn agrees(record: &[u8], input: &[u8], after: &[u8], lent: &mut [u8]) -> bool {
     if got.value != octets::word(record, 9) as usize {
         return false;
     }
-    check::same(lent, after)
+    &*lent == after
 }
 
 // A record taken apart: its head, the input, and the lent buffer as it is afterwards.
@@ -80,29 +81,36 @@ fn replayed(record: &[u8], lent: &mut [u8]) -> bool {
 
 // A proved loop has to end, and nothing says that the list does. So the loop counts its turns, up to a number that no
 // list reaches.
-fn replay(text: &mut [u8], record: &mut [u8], lent: &mut [u8]) -> Tally {
+fn replay(
+    input: Stdin,
+    out: Stdout,
+    text: &mut [u8],
+    record: &mut [u8],
+    lent: &mut [u8],
+) -> Tally {
     let mut s = records::start();
     let mut t = Tally {
         records: 0,
         wrong: 0,
     };
     for _ in 0..1000000u32 {
-        s = records::next(text, record, s);
+        s = records::next(input, text, record, s);
         if !s.whole {
             return t;
         }
         let len = s.len;
-        t = records::judged(t, replayed(&record[..len], lent));
+        t = records::judged(out, t, replayed(&record[..len], lent));
     }
     t
 }
 
-fn main() {
-    let mut text = io::buffer();
-    let mut record = io::buffer();
-    let mut lent = io::buffer();
-    let t = replay(&mut text, &mut record, &mut lent);
+fn main(rt: HostRuntime) {
+    let mut text = [0; 4096];
+    let mut record = [0; 4096];
+    let mut lent = [0; 4096];
+    let t = replay(rt.stdin(), rt.stdout(), &mut text, &mut record, &mut lent);
     records::report(
+        rt.stdout(),
         t,
         b"answers of the crate replayed: ",
         b"answers that differ: ",
