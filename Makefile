@@ -13,7 +13,7 @@ help:
 test: proved beside frame-runs driver-runs targets host-runs ask-runs linecount-runs peers package-runs
 	@tail -n 1 out/ci.log | grep -x '[0-9]* passed, 0 failed'
 
-# every crate proved from nothing, the must-fail edits refused, the programs run
+# rt ci: every crate proved, the must-fail edits refused, the programs run
 prove: proved
 	@tail -n 1 out/ci.log
 
@@ -60,7 +60,7 @@ peers:
 
 # the static library for firmware, for this machine's processor (TARGET=cortex-m3 for another; an unknown one lists them)
 lib:
-	@bin/proved dalonjang
+	@bin/proved dalonjang_c
 	@bin/lib $(TARGET)
 
 # instructions per request beside two peers, held against docs/COST.md (UPDATE=1 writes it)
@@ -81,4 +81,4 @@ install:
 
 # all that was made and proved
 clean:
-	rm -rf out target
+	rm -rf out target crates/*/out

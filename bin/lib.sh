@@ -3,13 +3,14 @@
 # shellcheck shell=bash
 root=$PWD
 targets='x86_64 aarch64 armv7 cortex-m0 cortex-m3 cortex-m4'
-kit=${RATTLE_HOME:-$(dirname "$(dirname "$(rt doc)")")}
-tools=$kit/on/$(uname -m)/toolchain/bin
+kit=$(kit_folder)
+tools=$kit/toolchain/bin
 std=$root/target/lib/std # the few headers that firmware has for sure; the kit's clang has none of its own
 
 # The options with which the kit compiles, but for the processor, the level and -fPIC.
-kit_options=(-ffunction-sections -fdata-sections -mllvm -trap-unreachable -mllvm -no-trap-after-noreturn
-    --no-default-config -no-canonical-prefixes -fintegrated-cc1 -fno-crash-diagnostics -Werror)
+kit_options=(-mllvm -no-trap-after-noreturn -ffunction-sections -fdata-sections -mllvm -trap-unreachable
+    -mllvm -no-x86-call-frame-opt -mllvm -disable-machine-licm -mllvm -disable-postra-machine-licm
+    -mllvm -sink-common-insts=false --no-default-config -no-canonical-prefixes -fintegrated-cc1 -fno-crash-diagnostics -Werror)
 
 # processor TARGET: what clang has to know of it. A gauge's processor gets the smaller code.
 processor() {
@@ -41,44 +42,50 @@ write_std() {
     } >"$std/stdint.h"
 }
 
-# keeping_kit FILE: the kit seen through a folder of links, in which clang alone is another: it keeps what it is given to
-# compile as FILE, and goes on as the kit's. So the check, its verdict and the library are the kit's own.
-keeping_kit() {
-    local see=$root/target/lib/kit here=on/$(uname -m) part file
-    rm -rf "$see"
-    mkdir -p "$see/$here/toolchain/bin"
-    for part in '' "$here" "$here/toolchain" "$here/toolchain/bin"; do
-        for file in "$kit/$part"/*; do
-            [ -e "$see/$part/${file##*/}" ] || ln -s "$file" "$see/$part/"
-        done
+# keeping_toolchain FILE: a folder of the kit's tools, in which clang keeps what it is given to compile as FILE, and goes on as
+# the kit's. So the check, its verdict and the library are the kit's own.
+keeping_toolchain() {
+    local see=$root/target/lib/toolchain tool
+    mkdir -p "$see/bin"
+    for tool in $(cd "$tools" && echo *); do
+        {
+            printf '#!/bin/bash\n'
+            [ $tool != clang ] || printf 'for word; do case $word in *.bc) cp "$word" "%s" ;; esac; done\n' "$1"
+            printf 'exec "%s" "$@"\n' "$tools/$tool"
+        } >"$see/bin/$tool"
+        chmod +x "$see/bin/$tool"
     done
-    rm "$see/$here/toolchain/bin/clang"
-    cat >"$see/$here/toolchain/bin/clang" <<END
-#!/bin/sh
-for word; do case \$word in *.bc) cp "\$word" "$1" ;; esac; done
-exec "$tools/clang" "\$@"
-END
-    chmod +x "$see/$here/toolchain/bin/clang"
     echo "$see"
 }
 
-# proved_module CRATE: target/lib/CRATE.bc, the module of the library in target/staticlib, where both are younger than the
-# proof. Nothing is kept unless the kit says that the crate is proved.
+# proved_module CRATE: target/lib/libCRATE.a, the static library that the kit makes of the crate for every x86-64 processor, and
+# target/lib/CRATE.bc, the module of which it is made. The libraries below the crate are those that are proved. Both are
+# kept while what they are made of stays the same; nothing is kept unless the kit says that the crate is proved.
 proved_module() {
-    local crate=$1 kept=$PWD/target/lib/$1.bc made=target/staticlib/lib$1.a
-    mkdir -p target/lib out
-    rt check "$crate" || return
-    [ "$kept" -nt "target/stamp/$crate" ] && [ "$made" -nt "target/stamp/$crate" ] && return
-    rm -f "$kept" "$made"
-    RATTLE_HOME=$(keeping_kit "$kept.new") rt staticlib "$crate" && [ -e "$made" ] && mv "$kept.new" "$kept" &&
-        touch "$kept"
+    local crate=$1 made=$root/target/lib each words=(--crate-name "$1" src/lib.rt --crate-type staticlib --links "$1=") sources
+    mkdir -p "$made" out
+    sources=$(sources_of "$crate") || return
+    [ "$(cat "$made/$crate.sources" 2>/dev/null)" != "$sources" ] || [ ! -e "$made/lib$crate.a" ] || [ ! -e "$made/$crate.bc" ] || return 0
+    rm -f "$made/$crate".{sources,bc,bc.new} "$made/lib$crate.a"
+    for each in $(uses_of "$crate"); do words+=(--extern "$each=$(rlib_of "$each")"); done
+    for each in std $(below "$crate" | sed '$d'); do words+=(-L "dependency=$(dirname "$(rlib_of "$each")")"); done
+    (cd "crates/$crate" && "$kit/bin/rattle" build "${words[@]}" --antt-project "$kit/rattle/logic/antt-project.json" \
+        --logic-built "$kit/logic_built" --cpu x86-64 --backend llvm --toolchain "$(keeping_toolchain "$made/$crate.bc.new")" \
+        -o "$made/lib$crate.a" </dev/null) && [ -e "$made/lib$crate.a" ] && mv "$made/$crate.bc.new" "$made/$crate.bc" &&
+        echo "$sources" >"$made/$crate.sources"
+}
+
+# uses_of CRATE: the libraries that it names, std among them; rlib_of LIBRARY: where the kit has made it, the repository's in out/
+uses_of() { echo "std $(sed -nE "s/#.*//; s/^$1( [^:]*)?://p" crates.txt)"; }
+rlib_of() {
+    if [ -d "crates/$1" ]; then echo "$PWD/crates/$1/out/rlib/$1.rlib"; else echo "$kit/rlibs/$1.rlib"; fi
 }
 
 # parts_of CRATE: the objects of its library. Each has some of the calls, and what they take of the module: the compiler
 # writes a large function in place only where it has one call, so that serving costs nothing for what else is there, and
 # firmware links only what it calls.
 parts_of() {
-    case $1 in dalonjang) echo serve uart ask crc ;; *) echo all ;; esac
+    case $1 in dalonjang_c) echo serve uart ask crc ;; *) echo all ;; esac
 }
 
 # calls_of PART <CALLS: those that it has
@@ -93,19 +100,19 @@ calls_of() {
     esac
 }
 
-# make_library CRATE INCLUDE TARGET FOLDER: FOLDER/libCRATE.a of target/lib/CRATE.bc, with the calls of INCLUDE/CRATE.h
+# make_library CRATE NAME INCLUDE TARGET FOLDER: FOLDER/libNAME.a of target/lib/CRATE.bc, with the calls of INCLUDE/NAME.h
 make_library() {
-    local crate=$1 include=$2 target=$3 folder=$4 made part objects=() c=(-nostdinc -isystem "$std" -I"$(realpath "$2")")
+    local crate=$1 name=$2 include=$3 target=$4 folder=$5 made part objects=() c=(-nostdinc -isystem "$std" -I"$(realpath "$3")")
     rm -rf "$folder"
     mkdir -p "$folder/made"
     made=$folder/made
     write_std
-    for_target x86_64 -S -emit-llvm -x ir "target/lib/$crate.bc" -Xclang -disable-llvm-passes -o "$made/proved.ll" &&
+    for_target x86_64 -S -emit-llvm -x ir "$root/target/lib/$crate.bc" -Xclang -disable-llvm-passes -o "$made/proved.ll" &&
         sed -nE 's/^define [^@]*@([a-z_0-9]+)\(.*/\1/p' "$made/proved.ll" >"$made/calls" || return
     if [ "$target" != x86_64 ]; then
         for_target "$target" -S -emit-llvm -x c /dev/null -o "$made/empty.ll" &&
-            for_target x86_64 "${c[@]}" -x c -fsyntax-only -Xclang -ast-dump=json "$include/$crate.h" >"$made/header.json" &&
-            "${BOUNDARY:-$root/bin/boundary}" "$crate" "$made/header.json" "$made/proved.ll" "$made/empty.ll" "$made" &&
+            for_target x86_64 "${c[@]}" -x c -fsyntax-only -Xclang -ast-dump=json "$include/$name.h" >"$made/header.json" &&
+            "${BOUNDARY:-$root/bin/boundary}" "$name" "$made/header.json" "$made/proved.ll" "$made/empty.ll" "$made" &&
             for_target x86_64 "${c[@]}" -fsyntax-only "$made/layout.c" &&
             for_target "$target" -c -emit-llvm -x ir "$made/module.ll" -Xclang -disable-llvm-passes -o "$made/module.bc" || return
     fi
@@ -113,7 +120,7 @@ make_library() {
         make_part "$target" "$part" || return
         objects+=("$made/$part.o")
     done
-    "$tools/llvm-ar" rcsD "$folder/lib$crate.a" "${objects[@]}"
+    "$tools/llvm-ar" rcsD "$folder/lib$name.a" "${objects[@]}"
 }
 
 # make_part TARGET PART: the object of these calls, and what clang says of its stack. On x86-64 the module has them as they

@@ -17,12 +17,26 @@ debian() {
     "$program" "${options[@]}" "$@"
 }
 
+# unpack_deb PACKAGE..: these files of packages; a link becomes what it leads to, since rt ci wants no link in the checkout
+unpack_deb() {
+    local file link at
+    for file in "$@"; do dpkg-deb -x "$file" "$peers/root" || return; done
+    find "$peers/root" -type l | while read -r link; do
+        at=$(readlink "$link")
+        case $at in /*) at=$peers/root$at ;; *) at=$(dirname "$link")/$at ;; esac
+        at=$(realpath -q "$at") || :
+        rm "$link"
+        [ ! -e "$at" ] || cp -RL "$at" "$link" || :
+    done
+    find "$peers/root" -type l -delete
+}
+
 # unpack ARCH PACKAGE..: these packages and none that they need
 unpack() {
-    local arch=$1 packages=$peers/$1/packages file
+    local arch=$1 packages=$peers/$1/packages
     shift
     mkdir -p "$packages" && (cd "$packages" && debian "$arch" apt-get download "$@") || return
-    for file in "$packages"/*.deb; do dpkg-deb -x "$file" "$peers/root" || return; done
+    unpack_deb "$packages"/*.deb
 }
 
 # A rustc for this machine with the standard library for x86-64, and libmodbus for x86-64; their versions.
@@ -35,9 +49,9 @@ unpack_peers() {
     version=$(debian "$here" apt-cache depends "libstd-$rust-dev" | sed -n 's/.*Depends: \(libstd-rust.*\)/\1/p')
     # the shared libraries that this rustc needs and the machine has not
     debian "$here" apt-get -y --no-install-recommends --download-only install "$version" || return
-    for file in "$peers/$here"/cache/archives/*.deb; do
-        [ ! -e "$file" ] || dpkg-deb -x "$file" "$peers/root" || return
-    done
+    if compgen -G "$peers/$here/cache/archives/*.deb" >/dev/null; then
+        unpack_deb "$peers/$here"/cache/archives/*.deb || return
+    fi
     unpack "$here" "${rust/rust/rustc}" "$version" &&
         unpack amd64 "libstd-$rust-dev" libmodbus5 libmodbus-dev &&
         x86rustc --version | cut -d' ' -f2 >"$peers/new" &&
@@ -77,14 +91,12 @@ build_peers() {
         build_libmodbus libmodbus && build_libmodbus libmodbus-reply -DREPLY_ALONE=1
 }
 
-# find_emulator [PROCESSOR]: $emulator for it, or for x86_64: the kit's where it has one, else this machine's, else
-# Debian's unpacked
+# find_emulator [PROCESSOR]: $emulator for it, or for x86_64: this machine's, else Debian's unpacked
 find_emulator() {
-    local kit=${RATTLE_HOME:-$(dirname "$(dirname "$(rt doc)")")} package name=qemu-${1:-x86_64}
+    local package name=qemu-${1:-x86_64}
     for package in '' qemu-user-static qemu-user; do # the second has it in Debian 12, the third from 13 on
         [ -z "$package" ] || { debian "$here" apt-get update && unpack "$here" $package; } || return
-        for emulator in "$kit/on/$(uname -m)/toolchain/bin/$name" "$(command -v "$name")" \
-            "$(command -v "$name-static")" "$usr/bin/$name"{-static,}; do
+        for emulator in "$(command -v "$name")" "$(command -v "$name-static")" "$usr/bin/$name"{-static,}; do
             [ ! -x "$emulator" ] || return 0
         done
     done

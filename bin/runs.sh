@@ -3,7 +3,7 @@
 source=../shared/docs/src/src # the crate's source stands beside the repository, never in it
 vectors=out/oracle/target/oracle/vectors
 seed=${SEED:-1}
-kit_wanted='rattle-kit-5b logic 064da1ca440f63e7' # as `rt version` says it
+kit_wanted='rattle-kit-13f logic dac8208d650f15bf' # as `rt version` says it
 PATH=$PATH:${HOME:-/root}/.cargo/bin
 
 fail() {
@@ -73,83 +73,137 @@ need_kit() {
     [ "$here" = "$kit_wanted" ] || echo "$(basename "$0"): the kit here is $here, where $kit_wanted was in use" >&2
 }
 
-# below CRATE..: they and the crates of this repository that they are built on, a line each, with what each is built on
+# kit_folder: where the kit stands, whose guide `rt doc` names
+kit_folder() { dirname "$(rt doc)"; }
+
+# below CRATE..: they and the crates of this repository that they are built on, a line each, every crate after those that
+# it is built on, which is the order in which rt proves them
 below() {
-    tac crates.txt | awk -v wanted=" $* " '
-        { name = $1; sub(":", "", name) }
-        index(wanted, " " name " ") { need[name] = 1 }
-        need[name] { for (i = 2; i <= NF; i++) need[$i] = 1; print }' | tac
+    awk -v wanted="$*" '
+        { sub(/#.*/, ""); at = index($0, ":"); split(at ? substr($0, 1, at - 1) : $0, head, " ") }
+        head[1] != "" { uses[head[1]] = at ? substr($0, at + 1) : "" }
+        function visit(name,  each, n, i) {
+            if (!(name in uses) || seen[name]++) return
+            n = split(uses[name], each, " ")
+            for (i = 1; i <= n; i++) visit(each[i])
+            print name
+        }
+        END { n = split(wanted, each, " "); for (i = 1; i <= n; i++) visit(each[i]) }' crates.txt
 }
 
-# progress CRATE.. <WHAT RT SAYS: where nothing was said for two seconds, how many crates are proved and which is next
+# progress CRATE <WHAT RT SAYS: where nothing was said for two seconds, how many crates are proved and which is next; of
+# those that it need not prove again rt says nothing
 progress() {
-    local line name needs each proved=' ' said='' next status all
-    all=$(below "$@")
+    local line next='' said='' status all
+    all=$(below "$1")
     while true; do
         status=0
         read -r -t 2 line || status=$?
         if [ $status = 0 ]; then
-            [[ ! $line =~ ^rt:\ ([a-z]+)\ proved ]] || proved="$proved${BASH_REMATCH[1]} "
+            [[ ! $line =~ ^rt:\ chose\ .*\ for\ ([a-z0-9_]+)$ ]] || next=${BASH_REMATCH[1]}
             continue
         fi
         [ $status -gt 128 ] || return 0 # nothing more comes
-        next=''
-        while read -r name needs; do
-            [[ $proved != *" ${name%:} "* ]] || continue
-            for each in $needs; do [[ $all != *"$each:"* || $proved == *" $each "* ]] || continue 2; done
-            next="$next, ${name%:}"
-        done <<<"$all"
-        [ "$next" = "$said" ] || echo "proving: $(wc -w <<<"$proved") of $(wc -l <<<"$all") crates done, now ${next#, }"
+        [ "$next" = "$said" ] ||
+            echo "proving: $(($(grep -nx "$next" <<<"$all" | cut -d: -f1) - 1)) of $(wc -l <<<"$all") crates done, now $next"
         said=$next
     done
 }
 
-# prove CRATE..: proved where they are not yet, or have changed; that takes minutes the first time
-prove() {
-    need_kit
-    rt check "$@" 2>&1 | tee out/proved.log | progress "$@" >&2 || { cat out/proved.log >&2; fail "not proved: $*"; }
+# kind_of CRATE: a library, a static library or a program; made_of CRATE: the file that tells what the kit has made of it
+kind_of() {
+    if [ -e "crates/$1/src/main.rt" ]; then echo program
+    elif grep -qE "^$1 +staticlib" crates.txt; then echo static
+    else echo library; fi
+}
+made_of() {
+    case $(kind_of "$1") in
+    program) echo "crates/$1/out/$1" ;;
+    library) echo "crates/$1/out/rlib/$1.rlib/format" ;; # it has the sum of the library's other files
+    static) echo /dev/null ;;                             # bin/lib.sh makes it
+    esac
 }
 
-# library CRATE..: $LIB, or the libraries of these crates for x86-64, from the sources as they stand. What is proved is not
-# proved again, nor is a library made again that is younger than the proof.
+# sources_of CRATE: a sum of all that its proof reads: the kit, crates.txt, and the files of the crate and of those below it
+sources_of() {
+    local each part folders=()
+    for each in $(below "$1"); do
+        for part in src specs proofs; do [ ! -d "crates/$each/$part" ] || folders+=("crates/$each/$part"); done
+    done
+    { rt version && cat crates.txt && find "${folders[@]}" -type f -print0 | LC_ALL=C sort -z | xargs -0 sha256sum; } |
+        sha256sum | cut -d' ' -f1
+}
+
+# mark_of CRATE: what out/built/CRATE holds while the kit's proof of it is of the sources as they stand, and what it made
+# of them is there. is_built CRATE..: whether that is so of all of these; note_built CRATE..: notes it, as the kit says it.
+mark_of() { echo "$(sources_of "$1") $(sha256sum <"$(made_of "$1")" | cut -d' ' -f1)"; }
+is_built() {
+    local crate
+    for crate; do
+        [ -e "$(made_of "$crate")" ] && [ "$(cat "out/built/$crate" 2>/dev/null)" = "$(mark_of "$crate")" ] || return
+    done
+}
+note_built() {
+    local crate
+    mkdir -p out/built
+    for crate; do mark_of "$crate" >"out/built/$crate"; done
+}
+
+# rt_for CRATE: the kit proves it and what is below it, as far as that is not proved, and makes the library or the program;
+# a program is run for that, on its own input
+rt_for() {
+    local kind input=/dev/null
+    kind=$(kind_of "$1")
+    cd "crates/$1" || return
+    [ ! -e stdin ] || input=stdin
+    if [ "$kind" = program ]; then rt run <$input 2>&1 >/dev/null; else rt lib 2>&1 </dev/null; fi
+}
+
+# prove CRATE..: proved where they are not yet, or have changed; that takes minutes the first time
+prove() {
+    local crate sources lower
+    need_kit
+    for crate; do
+        mapfile -t lower < <(below "$crate" | sed '$d')
+        if is_built "$crate" && { [ "$(kind_of "$crate")" = program ] || is_built "${lower[@]}"; }; then continue; fi
+        sources=$(sources_of "$crate")
+        (rt_for "$crate") | tee out/proved.log | progress "$crate" >&2 || { cat out/proved.log >&2; fail "not proved: $crate"; }
+        [ "$sources" = "$(sources_of "$crate")" ] || fail "the sources of $crate changed while they were proved"
+        case $(kind_of "$crate") in program) note_built "$crate" ;; *) note_built "${lower[@]}" "$crate" ;; esac
+    done
+}
+
+# library CRATE..: $LIB, or the static libraries of these crates for x86-64, from the sources as they stand: what is proved is
+# not proved again, nor is a library made again that is made of these sources
 library() {
-    local crate made
+    local crate
     if [ -z "${LIB:-}" ]; then
         for crate in "$@"; do
-            made=target/staticlib/lib$crate.a
-            if [ "$crate" = dalonjang ]; then
-                prove dalonjang
-                logged lib bin/lib x86_64
-                made=target/lib/x86_64/libdalonjang.a
-            else
-                prove "$crate"
-                [ "$made" -nt "target/stamp/$crate" ] || logged staticlib rt staticlib "$crate"
-            fi
-            LIB="${LIB:-} $made"
+            prove "$crate"
+            case $crate in
+            dalonjang_c) logged lib bin/lib x86_64 && LIB="${LIB:-} target/lib/x86_64/libdalonjang.a" ;;
+            *) logged lib made_by_kit "$crate" && LIB="${LIB:-} target/lib/lib$crate.a" ;;
+            esac
         done
     fi
 }
 
+made_by_kit() { (. bin/lib.sh && proved_module "$1"); }
+
 # machine_library: $LIB, or the library for this machine's processor, from the sources as they stand
 machine_library() {
     if [ -z "${LIB:-}" ]; then
-        prove dalonjang
+        prove dalonjang_c
         logged lib bin/lib
         LIB=target/lib/$(uname -m)/libdalonjang.a
     fi
 }
 
-# linecount_program: $LINECOUNT, or the program that rt makes of the sources as they stand; on another processor than x86-64 a script that runs it
-# there
+# linecount_program: $LINECOUNT, or the program that rt makes of the sources as they stand
 linecount_program() {
     if [ -z "${LINECOUNT:-}" ]; then
         prove linecount
-        LINECOUNT=$PWD/target/bin/linecount
-        if [ "$(uname -m)" != x86_64 ]; then
-            printf '#!/bin/sh\nexec "%s" "%s"\n' "$PWD/bin/x86run" "$LINECOUNT" >out/linecount
-            chmod +x out/linecount
-            LINECOUNT=$PWD/out/linecount
-        fi
+        LINECOUNT=$PWD/crates/linecount/out/linecount
     fi
 }
 

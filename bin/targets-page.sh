@@ -7,7 +7,7 @@ measure_libraries() {
     local target made part
     for target in $targets; do
         made=$room/$target/lib/dalonjang/made
-        for part in $(parts_of dalonjang); do
+        for part in $(parts_of dalonjang_c); do
             bin/figures "$made/$part.o" "$made/$part.su" || return
         done | added_up >"$room/$target/figures" || return
     done

@@ -1,4 +1,4 @@
-/* The ported calls of modules 1 and 4 by name, as `rt staticlib probe` exports them for the runs beside the Rust; those
+/* The ported calls of modules 1 and 4 by name, as the static library `probe` exports them for the runs beside the Rust; those
  * of modules 2 and 3 are in include/dalonjang.h.
  * A slice is a pointer, then a length. */
 #ifndef PROBE_H

@@ -17,8 +17,7 @@ use client::{ModbusRequest, Reading};
 use driver::{Driven, Setup};
 use modbus::{Answer, ProtoAnswer};
 
-#[unsafe(no_mangle)]
-pub extern "C" fn dalonjang_drive(
+pub fn dalonjang_drive(
     setup: Setup,
     list: &[u8],
     coils: &mut [u8],
@@ -36,15 +35,13 @@ pub extern "C" fn dalonjang_drive(
     )
 }
 
-#[unsafe(no_mangle)]
-pub extern "C" fn dalonjang_offer(state: &mut [u8], bytes: &[u8]) -> Answer
+pub fn dalonjang_offer(state: &mut [u8], bytes: &[u8]) -> Answer
     ensures { ((result.kind, result.value), state.new) ≡ told_with state.old (offered state.old bytes.now) }
 {
     modbus::size_answer(collector::offer(state, bytes))
 }
 
-#[unsafe(no_mangle)]
-pub extern "C" fn dalonjang_quiet(
+pub fn dalonjang_quiet(
     setup: Setup,
     list: &[u8],
     coils: &mut [u8],
@@ -62,8 +59,7 @@ pub extern "C" fn dalonjang_quiet(
     ))
 }
 
-#[unsafe(no_mangle)]
-pub extern "C" fn dalonjang_parse_ascii_frame(
+pub fn dalonjang_parse_ascii_frame(
     data: &[u8],
     data_len: usize,
     frame_buf: &mut [u8],
@@ -75,15 +71,13 @@ pub extern "C" fn dalonjang_parse_ascii_frame(
     modbus::byte_answer(ascii::parse_ascii_frame(data, data_len, frame_buf, frame_pos, hex))
 }
 
-#[unsafe(no_mangle)]
-pub extern "C" fn dalonjang_generate_ascii_frame(data: &[u8], res: &mut [u8]) -> Answer
+pub fn dalonjang_generate_ascii_frame(data: &[u8], res: &mut [u8]) -> Answer
     ensures { ((result.kind, result.value), res.new) ≡ generated_into «data».now res.old }
 {
     modbus::size_answer(ascii::generate_ascii_frame(data, res))
 }
 
-#[unsafe(no_mangle)]
-pub extern "C" fn dalonjang_calc_crc16(frame: &[u8], data_length: u8) -> u16
+pub fn dalonjang_calc_crc16(frame: &[u8], data_length: u8) -> u16
     ensures { result ≡ crc (take data_length frame.now) }
 {
     checks::calc_crc16(frame, data_length)
@@ -108,22 +102,19 @@ fn guess_frame_len(request: bool, frame: &[u8], proto: u8, hex: u8) -> Answer
     }
 }
 
-#[unsafe(no_mangle)]
-pub extern "C" fn dalonjang_guess_request_frame_len(frame: &[u8], proto: u8, hex: u8) -> Answer
+pub fn dalonjang_guess_request_frame_len(frame: &[u8], proto: u8, hex: u8) -> Answer
     ensures { (result.kind, result.value) ≡ guessed hex request_body proto frame.now }
 {
     guess_frame_len(true, frame, proto, hex)
 }
 
-#[unsafe(no_mangle)]
-pub extern "C" fn dalonjang_guess_response_frame_len(buf: &[u8], proto: u8, hex: u8) -> Answer
+pub fn dalonjang_guess_response_frame_len(buf: &[u8], proto: u8, hex: u8) -> Answer
     ensures { (result.kind, result.value) ≡ guessed hex response_body proto buf.now }
 {
     guess_frame_len(false, buf, proto, hex)
 }
 
-#[unsafe(no_mangle)]
-pub extern "C" fn dalonjang_generate_get(
+pub fn dalonjang_generate_get(
     to: ModbusRequest,
     func: u8,
     reg: u16,
@@ -135,8 +126,7 @@ pub extern "C" fn dalonjang_generate_get(
     to.generate_get(func, reg, count, request)
 }
 
-#[unsafe(no_mangle)]
-pub extern "C" fn dalonjang_generate_set(
+pub fn dalonjang_generate_set(
     to: ModbusRequest,
     func: u8,
     reg: u16,
@@ -148,8 +138,7 @@ pub extern "C" fn dalonjang_generate_set(
     to.generate_set(func, reg, values, request)
 }
 
-#[unsafe(no_mangle)]
-pub extern "C" fn dalonjang_generate_mask(
+pub fn dalonjang_generate_mask(
     to: ModbusRequest,
     reg: u16,
     and_mask: u16,
@@ -161,8 +150,7 @@ pub extern "C" fn dalonjang_generate_mask(
     to.generate_mask(reg, and_mask, or_mask, request)
 }
 
-#[unsafe(no_mangle)]
-pub extern "C" fn dalonjang_generate_set_get(
+pub fn dalonjang_generate_set_get(
     to: ModbusRequest,
     reg: u16,
     count: u16,
@@ -175,8 +163,7 @@ pub extern "C" fn dalonjang_generate_set_get(
     to.generate_set_get(reg, count, write_reg, values, request)
 }
 
-#[unsafe(no_mangle)]
-pub extern "C" fn dalonjang_parse_response(
+pub fn dalonjang_parse_response(
     proto: u8,
     request: &[u8],
     response: &[u8],
