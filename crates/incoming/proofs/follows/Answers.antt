@@ -5,7 +5,7 @@ use native.Mathlib.Omega.{arith}
 use lib.ListN.{length}
 use lib.Seq.{take-length}
 use Rattle.modbus.specs.Paper.{told}
-use Rattle.incoming.proofs.EnvelopeLaws.{follows_beyond, follows_there, follows-not}
+use Rattle.incoming.proofs.EnvelopeLaws.{follows_beyond, follows_there, follows_not}
 use Rattle.incoming.proofs.follows.Goals as goal
 
 pub returns-then-buf-start : goal.returns-then-buf-start
@@ -20,7 +20,7 @@ returns-then-buf-at c = sym (ap told (follows_beyond _ _ _ (omega arith)))
 pub returns-then-buf-at-2 : goal.returns-then-buf-at-2
 returns-then-buf-at-2 c =
     let l = c.loop-i in
-    sym (ap told (follows-not _ _ _ (omega arith) l.i (omega arith) c.if-buf-at-2.true))
+    sym (ap told (follows_not _ _ _ (omega arith) l.i (omega arith) c.if-buf-at-2.true))
 
 pub returns : goal.returns
 returns c =

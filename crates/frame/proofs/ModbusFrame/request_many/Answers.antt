@@ -6,7 +6,7 @@ use Rattle.modbus.proofs.StepLaws.{test_passes}
 use Rattle.modbus.specs.Paper.{told}
 use Rattle.incoming.proofs.EnvelopeLaws.{frame_counted}
 use Rattle.frame.proofs.StateLaws.{left}
-use Rattle.frame.proofs.ParseLaws.{many_short, many_overflows, many_refused, many-checked}
+use Rattle.frame.proofs.ParseLaws.{many_short, many_overflows, many_refused, many_checked}
 use Rattle.frame.proofs.ModbusFrame.request_many.Goals as goal
 
 pub returns-then-buf-start-lt7 : goal.returns-then-buf-start-lt7
@@ -33,5 +33,5 @@ pub returns-in-Done : goal.returns-in-Done
 returns-in-Done c out =
     let a = c.args in
     c.accept_many.ensures out
-    ∙ sym (many-checked a.most a.broadcast a.given a.self a.buf.now out (omega arith) _ refl _
+    ∙ sym (many_checked a.most a.broadcast a.given a.self a.buf.now out (omega arith) _ refl _
     c.overflows.ensures c.if-overflows.false _ (c.check_frame_crc.ensures ∙ ap told (frame_counted _ _ _ _ (test_passes _ _ c.overflows.ensures c.if-overflows.false))) c.in-Done.is)

@@ -5,7 +5,7 @@ use native.Mathlib.Omega.{arith}
 use Rattle.modbus.specs.Paper.{told}
 use Rattle.incoming.proofs.EnvelopeLaws.{frame_byte}
 use Rattle.frame.proofs.StateLaws.{left}
-use Rattle.frame.proofs.ParseLaws.{read_short, read_refused, read-checked}
+use Rattle.frame.proofs.ParseLaws.{read_short, read_refused, read_checked}
 use Rattle.frame.proofs.ModbusFrame.request_read.Goals as goal
 
 pub returns-then-buf-start-lt6 : goal.returns-then-buf-start-lt6
@@ -22,4 +22,4 @@ pub returns-in-Done : goal.returns-in-Done
 returns-in-Done c out =
     let e = c.check_frame_crc.ensures ∙ ap told (frame_byte _ _ _ 6 (omega arith)) in
     c.accept_read.ensures out
-    ∙ sym (read-checked _ _ _ _ out c.if-broadcast.false (omega arith) _ e c.in-Done.is)
+    ∙ sym (read_checked _ _ _ _ out c.if-broadcast.false (omega arith) _ e c.in-Done.is)
