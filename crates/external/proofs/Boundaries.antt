@@ -2,9 +2,9 @@
 -- a response, where a request's data stand, how many bytes a frame must have.
 -- Assumes nothing.
 use mathlib.Core.Path.{◌≡◌, refl}
-use mathlib.Core.Bool.{true, false}
+use mathlib.Core.Bool.{true}
 use mathlib.Core.List.{List, [], ◌∷◌, ◌++◌, map}
-use Prim.Native.Nat.{ℕ, ◌+◌}
+use Prim.Native.Nat.{ℕ}
 use native.Mathlib.Decide.{dec_le, ℕ_discrete}
 use lib.ListN.{take, replicate}
 use Rattle.modbus.specs.Step.{◌>>=◌, ◌>>◌, need, choose, ◌or?◌}

@@ -9,7 +9,6 @@ use Rattle.modbus.specs.Step.{Step, stop, go, ◌>>◌, need, ◌≤?◌}
 use Rattle.modbus.specs.Ported.{Ported}
 use Rattle.modbus.specs.declared.ErrorKind.TheVariants.{OOB}
 use Rattle.modbus.proofs.StepLaws.{pass, fail}
-use Rattle.outgoing.specs.Grow.{response}
 use Rattle.frame.specs.State.{ported_of, After, refused}
 use Rattle.external.specs.External.{without, described_by}
 use Rattle.frame.specs.declared.ModbusFunction.{ModbusFunction}

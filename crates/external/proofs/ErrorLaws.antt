@@ -1,11 +1,9 @@
 -- Each way out of setting a Modbus error, and of what the firmware reports.
 -- Assumes nothing.
 use mathlib.Core.Path.{◌≡◌, refl, sym, ap, ◌∙◌}
-use mathlib.Core.List.{List, [], ◌∷◌}
+use mathlib.Core.List.{List}
 use Prim.Native.Nat.{ℕ, ◌≤◌, ◌<◌}
 use lib.ListN.{length}
-use types.Run.{OneOf, miss}
-use denote.Enum.Declared.{tag_of}
 use Rattle.modbus.specs.Step.{stop, choose, ◌≟◌}
 use Rattle.modbus.specs.Ported.{Ported, reads, one, many}
 use Rattle.modbus.specs.Paper.{number, told_with, size_paper}
@@ -16,7 +14,6 @@ use Rattle.modbus.specs.declared.SizeAnswer.TheVariants as size
 use Rattle.modbus.proofs.StepLaws.{pick_yes, pick_no}
 use Rattle.modbus.proofs.PaperLaws.{told_same, value_with, refusal_with}
 use Rattle.response.specs.Bounded.{resized}
-use Rattle.outgoing.specs.Grow.{response}
 use Rattle.frame.specs.State.{ported_of, grown, with_error, After, well, refused, ended, left_paper}
 use Rattle.external.specs.External.{len_to_leave, resized_to, error_set, kind_code, report_code, error_set_if_unset}
 use Rattle.external.specs.External.{read_done, write_done, failed_by}
@@ -27,9 +24,7 @@ use Rattle.frame.specs.declared.ModbusFunction.{ModbusFunction}
 use Rattle.frame.specs.declared.ModbusFrame.{ModbusFrame}
 use Rattle.external.specs.declared.Reported.{Reported}
 use Rattle.external.specs.declared.Reported.TheVariants as report
-use Rattle.frame.proofs.ParseLaws.{leave}
 use Rattle.external.specs.External.{reported, report_processed}
-use Rattle.external.specs.contracts.Reported.{the_type}
 use Rattle.external.proofs.CallLaws.{exceeds, admits}
 
 -- ---- the code of a Modbus error
@@ -126,11 +121,7 @@ other_report (report.Refused k) c d s out h = refl
 other_report report.IllegalFunction c d s out h = refl
 other_report report.IllegalDataAddress c d s out h = refl
 
--- where the other reports stand among their variants
-abbrev others : List ℕ
-others = 1 ∷ 2 ∷ 3 ∷ []
-
-pub report_other : {x : After} (e : Reported) (c d : After) (s : ModbusFrame) (out : List ℕ) → OneOf others (tag_of the_type e)
+-- e is any other report
+pub report_other : {x : After} (e : Reported) (c d : After) (s : ModbusFrame) (out : List ℕ) → ¬ (e ≡ report.Done)
     → s.response_len ≤ length out → x ≡ reported e c s out → x ≡ report_processed e d s out
-report_other e c d s out k h p =
-    p ∙ other_report e c d s out (λ q. miss others 0 tt (rw q at k)) ∙ sym (report_by e d s out h e refl)
+report_other e c d s out n h p = p ∙ other_report e c d s out n ∙ sym (report_by e d s out h e refl)

@@ -7,7 +7,7 @@ use native.Mathlib.Omega.{arith}
 use lib.ListN.{length}
 use Rattle.modbus.specs.Step.{Step, stop, go, ◌≤?◌}
 use Rattle.modbus.specs.Table.{Kind}
-use Rattle.modbus.specs.Paper.{number, told_with, done_paper, size_paper}
+use Rattle.modbus.specs.Paper.{told_with, done_paper, size_paper}
 use Rattle.modbus.specs.declared.ErrorKind.{ErrorKind}
 use Rattle.modbus.specs.declared.ErrorKind.TheVariants.{OOB}
 use Rattle.modbus.specs.declared.DoneAnswer.{DoneAnswer}

@@ -2,7 +2,7 @@
 -- response is cut by, a coil's values, the place of the data, the codes, an error that was set before, the end of a response.
 -- Assumes nothing.
 use mathlib.Core.Path.{◌≡◌, refl}
-use mathlib.Core.Bool.{true, false}
+use mathlib.Core.Bool.{true}
 use mathlib.Core.List.{List, [], ◌∷◌, ◌++◌, map}
 use Prim.Native.Nat.{ℕ, ◌+◌}
 use lib.ListN.{take, replicate}

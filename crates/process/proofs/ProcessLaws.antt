@@ -2,7 +2,7 @@
 -- Assumes nothing.
 use mathlib.Core.Logic.{inl, inr}
 use mathlib.Core.Path.{◌≡◌, refl, sym, ap, ◌∙◌}
-use mathlib.Core.List.{List, [], ◌∷◌}
+use mathlib.Core.List.{List}
 use Prim.Native.Nat.{ℕ, ◌+◌, ◌-◌, ◌≤◌, ◌<◌}
 use native.Mathlib.Omega.{arith}
 use lib.Dec.{eqb}
@@ -13,7 +13,7 @@ use Rattle.modbus.specs.Ported.{Ported, reads}
 use Rattle.modbus.specs.Storage.{Storage, packed, storage}
 use Rattle.modbus.specs.Paper.{number, told, done_paper, size_paper, digit_of, told_with}
 use Rattle.modbus.specs.declared.ErrorKind.{ErrorKind}
-use Rattle.modbus.specs.declared.ErrorKind.TheVariants.{OOB, OOBContext, FrameBroken, ReadCallOnWriteFrame}
+use Rattle.modbus.specs.declared.ErrorKind.TheVariants.{OOB, OOBContext, ReadCallOnWriteFrame}
 use Rattle.modbus.specs.declared.DoneAnswer.{DoneAnswer}
 use Rattle.modbus.specs.declared.DoneAnswer.TheVariants.{Done, Refused}
 use Rattle.modbus.specs.declared.SizeAnswer.{SizeAnswer}

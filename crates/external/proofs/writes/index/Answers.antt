@@ -1,0 +1,19 @@
+-- `external::writes::index` meets its contract.
+-- Assumes nothing.
+use mathlib.Core.Path.{sym, ap}
+use native.Mathlib.Omega.{arith}
+use Rattle.modbus.specs.Paper.{told}
+use Rattle.external.proofs.WriteLaws.{indexed_far, indexed_beyond, indexed_all}
+use Rattle.external.proofs.writes.index.Goals as goal
+
+pub returns-then-first-start : goal.returns-then-first-start
+returns-then-first-start c = sym (ap told (indexed_far _ _ _ _ (omega arith)))
+
+pub returns-then-buf-end : goal.returns-then-buf-end
+returns-then-buf-end c = sym (ap told (indexed_beyond _ _ _ _ (omega arith) (omega arith)))
+
+pub returns-then-buf-end-2 : goal.returns-then-buf-end-2
+returns-then-buf-end-2 c = sym (ap told (indexed_beyond _ _ _ _ (omega arith) (omega arith)))
+
+pub returns : goal.returns
+returns c = sym (ap told (indexed_all _ _ _ _ (omega arith) (omega arith)))
