@@ -192,5 +192,10 @@ fn main(rt: HostRuntime) {
     let mut text = [0; 4096];
     let mut record = [0; 4096];
     let t = run(rt.stdin(), rt.stdout(), &mut text, &mut record);
-    records::report(rt.stdout(), t, b"cases of document 01 run: ", b"cases that differ: ");
+    records::report(
+        rt.stdout(),
+        t,
+        b"cases of document 01 run: ",
+        b"cases that differ: ",
+    );
 }

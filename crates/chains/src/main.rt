@@ -44,6 +44,19 @@ fn main(rt: HostRuntime) {
     let mut lent = [0; 4096];
     let mut bits = [0; calls::BITS];
     let mut words = [0; calls::WORDS];
-    let t = run(rt.stdin(), rt.stdout(), &mut text, &mut record, &mut bits, &mut words, &mut lent);
-    records::report(rt.stdout(), t, b"calls of the frame replayed: ", b"calls that differ: ");
+    let t = run(
+        rt.stdin(),
+        rt.stdout(),
+        &mut text,
+        &mut record,
+        &mut bits,
+        &mut words,
+        &mut lent,
+    );
+    records::report(
+        rt.stdout(),
+        t,
+        b"calls of the frame replayed: ",
+        b"calls that differ: ",
+    );
 }

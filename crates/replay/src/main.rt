@@ -81,13 +81,7 @@ fn replayed(record: &[u8], lent: &mut [u8]) -> bool {
 
 // A proved loop has to end, and nothing says that the list does. So the loop counts its turns, up to a number that no
 // list reaches.
-fn replay(
-    input: Stdin,
-    out: Stdout,
-    text: &mut [u8],
-    record: &mut [u8],
-    lent: &mut [u8],
-) -> Tally {
+fn replay(input: Stdin, out: Stdout, text: &mut [u8], record: &mut [u8], lent: &mut [u8]) -> Tally {
     let mut s = records::start();
     let mut t = Tally {
         records: 0,
