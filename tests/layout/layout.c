@@ -30,6 +30,13 @@ static void structs(void) {
     is("the field after it", l.count, 772);
     is("the field after that", l.covered, s.rule);
     is("a number of 32 bits after a struct", l.wide, 0x89ABCDEF);
+    struct layout_short o = layout_short(211, (struct layout_window){most / 11, 7}, 0xB5D7);
+    is("the length of an answer of two numbers", o.value, most / 11);
+    is("the byte after it", o.kind, 211); /* it is 0 where a number came otherwise */
+    struct layout_small m = layout_small((struct layout_small){0xE9, 0xD8C7}, 0x9F8E7D6C, (struct layout_one){0xB6A5});
+    is("the byte of an answer of 4 bytes", m.a, 0xE9);
+    is("a struct of one number", m.b, 0xB6A5);
+    is("an answer of one number", layout_one((struct layout_one){0x9C8B}, (struct layout_small){0x87, 0xF6E5}).a, 0xF6E5);
     is("the second field of a struct in a struct", layout_count(s), s.window.count);
     is("the first length of a setup", layout_cells(3, s), s.cells);
 }

@@ -12,10 +12,16 @@ struct layout_setup {
     size_t last;
 };
 struct layout_told { size_t length; uint8_t outcome, code, table; uint16_t first, count; };
+struct layout_short { size_t value; uint8_t kind; };
+struct layout_small { uint8_t a; uint16_t b; };
+struct layout_one { uint16_t a; };
 struct layout_long { size_t length; uint8_t outcome; uint16_t first, count, covered; uint32_t wide; };
 
 struct layout_told layout_setup(struct layout_setup s, uint16_t x);
 struct layout_long layout_window(uint8_t k, struct layout_setup s, uint32_t y);
+struct layout_short layout_short(uint8_t k, struct layout_window w, uint16_t n);
+struct layout_small layout_small(struct layout_small s, uint32_t x, struct layout_one o);
+struct layout_one layout_one(struct layout_one o, struct layout_small s);
 size_t layout_count(struct layout_setup s);
 size_t layout_cells(size_t a, struct layout_setup s);
 struct layout_told layout_asked(struct layout_asked to, const uint16_t *values, size_t values_len, uint16_t n,
