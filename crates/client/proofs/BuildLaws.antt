@@ -1,35 +1,34 @@
 -- A request's body says the request exactly if that may be asked: so the verdict on the body decides what is built.
 -- Assumes nothing.
 use mathlib.Core.Bool.{Bool, true, false}
-use mathlib.Core.Logic.{◌⊎◌, inl, inr, ⊎_elim, by_cases}
+use mathlib.Core.Logic.{⊎_elim, by_cases}
 use mathlib.Core.Path.{◌≡◌, refl, sym, ap, ap₂, ◌∙◌, subst}
-use mathlib.Core.List.{List, [], ◌∷◌, ◌++◌, append-nil}
-use Prim.Native.Nat.{ℕ, zero, suc, ◌+◌, ◌-◌, ◌*◌, ◌/◌, ◌%◌, ◌≤◌, ◌<◌}
+use mathlib.Core.List.{List, [], ◌∷◌, ◌++◌}
+use Prim.Native.Nat.{ℕ, ◌+◌, ◌-◌, ◌*◌, ◌/◌, ◌%◌, ◌≤◌, ◌<◌}
 use native.Mathlib.Omega.{arith}
 use native.Mathlib.Nat.{div-add-mod'}
-use lib.ListN.{length, get_or, take, replicate, length-replicate}
-use Rattle.modbus.specs.Step.{Step, stop, go, ◌>>=◌, ◌>>◌, need, ◌≤?◌}
-use Rattle.modbus.specs.Bytes.{All, two, word_at}
-use Rattle.modbus.specs.Table.{Kind, bit, word, Tab, coils, discretes, holdings, inputs, kind_of, Fits}
-use Rattle.modbus.specs.Request.{Fn, reads, one, many, mask, both, code, offered, Ask, read, write, writes, masks, swaps, fn_of, most_written, Permitted, octets, Pads, pdu, wire, shown}
+use lib.ListN.{length, get_or, length-replicate}
+use Rattle.modbus.specs.Step.{Step, stop, go, ◌≤?◌}
+use Rattle.modbus.specs.Bytes.{All, two}
+use Rattle.modbus.specs.Table.{Kind, bit, word, coils, discretes, holdings, inputs, Fits}
+use Rattle.modbus.specs.Request.{Fn, reads, one, many, mask, both, code, Ask, read, write, writes, masks, swaps, fn_of, most_written, Permitted, octets, Pads, pdu, wire, shown}
 use Rattle.modbus.specs.Paper.{proto_of}
-use Rattle.modbus.specs.Setup.{Setup, proto}
-use Rattle.modbus.specs.Decode.{Valued, lengthy?, valued?, asked, is_read?}
+use Rattle.modbus.specs.Setup.{Setup}
+use Rattle.modbus.specs.Decode.{Valued, asked}
 use Rattle.modbus.specs.Drive.{Inside, inside?}
 use Rattle.modbus.specs.declared.Answer.{Answer}
-use Rattle.modbus.proofs.StepLaws.{pass, fail, follow, halt, needed, bound}
+use Rattle.modbus.proofs.StepLaws.{pass, fail, follow, halt}
 use Rattle.modbus.proofs.FindLaws.{find_fn, found_fn, found_fault}
 use Rattle.modbus.proofs.WeighLaws.{weigh_goes, went}
-use Rattle.modbus.proofs.RequestLaws.{Heard, says_heard}
-use Rattle.requests.specs.Judged.{weighed, judged, on?, kind_by}
-use Rattle.requests.specs.declared.Write.{Write}
+use Rattle.modbus.proofs.RequestLaws.{says_heard}
+use Rattle.requests.specs.Judged.{weighed, judged, kind_by}
 use Rattle.requests.specs.declared.Write.TheVariants.{Bits, Words}
 use Rattle.requests.specs.declared.Verdict.{Verdict}
 use Rattle.requests.specs.declared.Verdict.TheVariants.{Read, Written, Masked, Exchanged, Refused, Quiet}
 use Rattle.requests.proofs.FineLaws.{Fine, fine}
 use Rattle.client.specs.declared.ModbusRequest.{ModbusRequest}
-use Rattle.client.specs.Asking.{Declined, bad_request, or_bad_request, permitted?, every_cell, function_of, read_by, write_by, getting, setting, padding, body_to, frame_to, generated, laid_into}
-use Rattle.client.specs.Hearing.{failed, roomed, framed, body_sent, many_body, both_body, declining}
+use Rattle.client.specs.Asking.{Declined, bad_request, or_bad_request, permitted?, every_cell, function_of, read_by, write_by, getting, setting, padding, body_to, generated, laid_into}
+use Rattle.client.specs.Hearing.{failed, body_sent, many_body, both_body, declining}
 use Rattle.client.proofs.LayLaws.{zero_bits}
 
 -- ---- functions have different numbers

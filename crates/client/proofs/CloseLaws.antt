@@ -2,15 +2,15 @@
 -- Assumes nothing.
 use mathlib.Core.Bool.{Bool, true, false}
 use mathlib.Core.Path.{◌≡◌, refl, sym, ap, ap₂, ◌∙◌}
-use mathlib.Core.List.{List, [], ◌∷◌, ◌++◌, append_assoc}
-use Prim.Native.Nat.{ℕ, ◌+◌, ◌-◌, ◌*◌, ◌≤◌, ◌<◌}
+use mathlib.Core.List.{List, ◌++◌, append_assoc}
+use Prim.Native.Nat.{ℕ, ◌+◌, ◌≤◌, ◌<◌}
 use native.Mathlib.Omega.{arith}
 use lib.ListN.{length, take, drop, length-drop, length-append}
 use lib.Seq.{sets, sets-eq, length-sets, length-take-le, take_at, drop_at}
-use Rattle.modbus.specs.Step.{Step, stop, go, ◌≤?◌}
+use Rattle.modbus.specs.Step.{stop}
 use Rattle.modbus.specs.Paper.{proto_of, told_with, size_paper}
 use Rattle.modbus.specs.Setup.{room_for}
-use Rattle.modbus.specs.Frame.{wrap, tag_of, tag_length, start_of, around}
+use Rattle.modbus.specs.Frame.{tag_of, tag_length, start_of, around}
 use Rattle.modbus.specs.declared.Answer.{Answer}
 use Rattle.modbus.specs.declared.SizeAnswer.{SizeAnswer}
 use Rattle.modbus.specs.declared.ModbusProto.{ModbusProto}
@@ -24,9 +24,9 @@ use Rattle.transports.specs.Sealed.{sealed}
 use Rattle.transports.proofs.SealedLaws.{sealed_room}
 use Rattle.requests.specs.Judged.{weighed}
 use Rattle.client.specs.declared.ModbusRequest.{ModbusRequest}
-use Rattle.client.specs.Asking.{Declined, bad_request, tag_to, every_cell, laid_into}
+use Rattle.client.specs.Asking.{bad_request, tag_to, every_cell, laid_into}
 use Rattle.client.specs.Hearing.{failed, roomed, framed, body_sent, declining}
-use Rattle.client.proofs.BuildLaws.{by_step, or_go, or_stop, declined_bad}
+use Rattle.client.proofs.BuildLaws.{by_step, or_go, or_stop}
 
 -- ---- numbers of each transport
 

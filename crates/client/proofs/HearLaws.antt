@@ -1,28 +1,26 @@
 -- A reply held against its request: each way out of reading, and the request that its frame says.
 -- Assumes nothing.
-use mathlib.Core.Bool.{Bool, true, false}
+use mathlib.Core.Bool.{false}
 use mathlib.Core.Logic.{inl, inr, by_cases}
 use mathlib.Core.Path.{◌≡◌, refl, sym, ap, ap₂, ◌∙◌, subst}
 use mathlib.Core.List.{List, [], ◌∷◌, head-eq_of_cons-eq, tail-eq_of_cons-eq}
-use Prim.Native.Nat.{ℕ, zero, suc, ◌+◌, ◌-◌, ◌*◌, ◌/◌, ◌≤◌, ◌<◌}
+use Prim.Native.Nat.{ℕ, zero, suc, ◌+◌, ◌-◌, ◌≤◌, ◌<◌}
 use native.Mathlib.Omega.{arith}
 use lib.Dec.{ltb}
 use lib.ListN.{length, get_or, take, drop, length-take, length-drop}
 use lib.Seq.{sets, ext_get_or, get_or-take, length-take-le, take-length}
-use Rattle.modbus.specs.Step.{Step, stop, go, ◌>>=◌, ◌>>◌, need, choose, ◌≤?◌, ◌≟◌, ◌and?◌, same?}
-use Rattle.modbus.specs.Table.{Kind, bit, word, Tab, coils, discretes, holdings, inputs, kind_of}
-use Rattle.modbus.specs.Request.{reads, mask, code, Ask, read, write, writes, masks, swaps, fn_of, most_read, octets}
+use Rattle.modbus.specs.Step.{Step, stop, go, ◌>>=◌, ◌≟◌}
+use Rattle.modbus.specs.Table.{Kind, bit, word, coils, discretes, holdings, inputs}
+use Rattle.modbus.specs.Request.{mask, code, Ask, read, write, writes, masks, swaps, fn_of, most_read, octets}
 use Rattle.modbus.specs.Storage.{values}
 use Rattle.modbus.specs.Paper.{proto_of}
 use Rattle.modbus.specs.Frame.{tag_of}
-use Rattle.modbus.specs.Setup.{Setup, proto}
-use Rattle.modbus.specs.Decode.{Message, unit_of, Silent, no_room_quiet, outcome_of, IsRead, Lengthy, Valued, unwrap, asked}
-use Rattle.modbus.specs.declared.ModbusProto.TheVariants.{TcpUdp}
-use Rattle.modbus.proofs.StepLaws.{pass, fail, follow, halt, bound, pick_yes, pick_no, holds, holds_not, test_refuses, test_passes}
+use Rattle.modbus.specs.Decode.{Message, unit_of, Silent, no_room_quiet, IsRead, unwrap, asked}
+use Rattle.modbus.proofs.StepLaws.{pass, fail, follow, halt, pick_yes, pick_no}
 use Rattle.modbus.proofs.StorageLaws.{length_part}
 use Rattle.modbus.proofs.WeighLaws.{weigh_alike, by_alike}
 use Rattle.modbus.proofs.RequestLaws.{fn_asked}
-use Rattle.requests.specs.Judged.{weighed, judged, kind_by}
+use Rattle.requests.specs.Judged.{weighed, kind_by}
 use Rattle.requests.specs.declared.Cells.{Cells}
 use Rattle.requests.specs.declared.ReadCells.{ReadCells}
 use Rattle.requests.specs.declared.Mask.{Mask}
@@ -30,14 +28,12 @@ use Rattle.requests.specs.declared.Exchange.{Exchange}
 use Rattle.requests.specs.declared.Write.{Write}
 use Rattle.requests.specs.declared.Write.TheVariants.{Bits, Words}
 use Rattle.requests.specs.declared.Verdict.{Verdict}
-use Rattle.requests.specs.declared.Verdict.TheVariants.{Read, Written}
+use Rattle.requests.specs.declared.Verdict.TheVariants.{Written}
 use Rattle.requests.proofs.FineLaws.{Stores, Fine, FineRead, FineWrite, FineMask, FineBoth}
-use Rattle.transports.specs.Opened.{fault_of}
-use Rattle.transports.proofs.AnswerLaws.{number_fault}
 use Rattle.client.specs.declared.Reading.{Reading}
-use Rattle.client.specs.Asking.{Declined, bad_request, not_my_reply, silent, declined_by, or_bad_request, or_silent, every_cell, no_broadcast, said_by, sent_as, Reply, shows, excepted, shown_count, kind_shown, Excepts, excepts?, Brings, Answers, answers?, held_in, answered, heard, mine?, replied, understood, read_into}
-use Rattle.client.specs.Hearing.{read_of, message_in, echoed, Showing, Asks, heard_from, replied_to}
-use Rattle.client.proofs.BuildLaws.{same_code, or_go, or_stop}
+use Rattle.client.specs.Asking.{Declined, bad_request, not_my_reply, silent, declined_by, or_silent, every_cell, no_broadcast, said_by, sent_as, Reply, shows, excepted, shown_count, kind_shown, Excepts, Brings, Answers, held_in, answered, replied, understood, read_into}
+use Rattle.client.specs.Hearing.{read_of, echoed, Showing, Asks, heard_from, replied_to}
+use Rattle.client.proofs.BuildLaws.{or_go, or_stop}
 
 -- ---- tags
 

@@ -1,6 +1,6 @@
 -- Each contract leaves one possible result, and one possible content of the buffer that is lent.
 -- Assumes nothing.
-use mathlib.Core.Path.{◌≡◌, refl, sym, ap, ◌∙◌}
+use mathlib.Core.Path.{refl, sym, ap, ◌∙◌}
 use mathlib.Core.List.{List}
 use Prim.Native.Nat.{ℕ}
 use Rattle.modbus.specs.declared.Answer.{Answer}
