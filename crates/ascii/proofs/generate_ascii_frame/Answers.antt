@@ -15,12 +15,10 @@ write_line-requires c = fitting _ _ _ c.fits.ensures c.if-not-fits.false
 
 pub overflow_add-result : goal.overflow_add-result
 overflow_add-result c =
-    let p = c in
     omega (arith, fitting _ _ _ c.fits.ensures c.if-not-fits.false)
 
 pub returns : goal.returns
 returns c =
-    let p = c in
     let a = c.args in
     let k = fitting _ _ _ c.fits.ensures c.if-not-fits.false in
     let m = length-set a.res.now 0 58 in

@@ -8,8 +8,6 @@ use Rattle.ascii.proofs.parse_text.Goals as goal
 
 pub returns : goal.returns
 returns c =
-    let f = c in
-    let w = c in
     let a = c.args in
     let p = c.plain.ensures c.if-not-plain.false in
     let s = a.«data».now in

@@ -14,6 +14,5 @@ returns-then-dst-at-2 c =
 
 pub returns : goal.returns
 returns c =
-    let l = c in
     let a = c.args in
     text_room a.dst.now a.at a.bytes.now _ (omega arith) c.lay_text.ensures

@@ -16,12 +16,10 @@ loop-i-init c = (omega arith, refl)
 
 pub loop-i-preserved : goal.loop-i-preserved
 loop-i-preserved c =
-    let l = c in
     let s = c.args.frame.now in
     (omega arith, lrc_step s c.loop-i.i _ (omega arith) (omega arith) (c.wrapping_sub_u8-lrc.ensures.value ∙ c.loop-i.invariant.1))
 
 pub returns : goal.returns
 returns c =
-    let l = c in
     let k : c.loop-i.i ≡ c.args.data_length = omega arith in
     ap (λ (b : ℕ). (0, b)) (rw k at c.loop-i.invariant.1) ∙ sym (ap told (pass _ _ _ (omega arith)))

@@ -11,7 +11,6 @@ loop-k-init c = (omega arith, refl)
 
 pub loop-k-preserved : goal.loop-k-preserved
 loop-k-preserved c =
-    let l = c in
     let a = c.args in
     let k = c.loop-k.k in
     let e : 4 * k + 4 ≡ 4 * (k + 1) = omega arith in (

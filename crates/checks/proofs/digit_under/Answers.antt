@@ -27,26 +27,21 @@ lenient (suc h) v q e = e
 
 pub returns-then-hex-eq0 : goal.returns-then-hex-eq0
 returns-then-hex-eq0 c =
-    let w = c in
     sym (ap told (strict _ _ c.if-hex-eq0.true (by_kind _ c.args.c c.chr_to_hex.result _ 2 c.chr_to_hex.ensures (ap hex_paper c.in-Small.is))))
 
 pub returns-in-Number : goal.returns-in-Number
 returns-in-Number c =
-    let w = c in
     sym (ap told (by_kind _ c.args.c c.chr_to_hex.result _ 0 c.chr_to_hex.ensures (ap hex_paper c.in-Number.is)))
 
 pub returns-in-Capital : goal.returns-in-Capital
 returns-in-Capital c =
-    let w = c in
     sym (ap told (by_kind _ c.args.c c.chr_to_hex.result _ 1 c.chr_to_hex.ensures (ap hex_paper c.in-Capital.is)))
 
 pub returns-else-hex-eq0 : goal.returns-else-hex-eq0
 returns-else-hex-eq0 c =
-    let w = c in
     sym (ap told (lenient _ _ c.if-hex-eq0.false (by_kind _ c.args.c c.chr_to_hex.result _ 2 c.chr_to_hex.ensures (ap hex_paper c.in-Small.is))))
 
 pub returns-in-Refused : goal.returns-in-Refused
 returns-in-Refused c =
-    let w = c in
     let a = c.args in
     sym (ap told (undigit_taken a.hex a.c ∙ ap (taken a.hex) (hex_refusal c.chr_to_hex.result (kinded a.c) _ c.chr_to_hex.ensures c.in-Refused.is)))

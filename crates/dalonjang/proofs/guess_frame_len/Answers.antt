@@ -13,20 +13,15 @@ returns-then-hex-gt1 c = unswitched _ (side_body c.args.request) _ _ (λ h. omeg
 
 pub returns-then-request : goal.returns-then-request
 returns-then-request c =
-    let n = c in
-    let found = c in
     rw c.if-request.true (numbered _ request_body _ _ (omega arith) _ _ (ap proto_paper (sym c.in-Value.is) ∙ c.proto_of-transport.ensures)
     (c.byte_answer.ensures ∙ c.guess_request_frame_len.ensures))
 
 pub returns-in-BadSetup : goal.returns-in-BadSetup
 returns-in-BadSetup c =
-    let found = c in
     unnumbered _ (side_body c.args.request) _ _ (omega arith)
     (ap proto_paper (sym c.in-BadSetup.is) ∙ c.proto_of-transport.ensures)
 
 pub returns-else-request : goal.returns-else-request
 returns-else-request c =
-    let n = c in
-    let found = c in
     rw c.if-request.false (numbered _ response_body _ _ (omega arith) _ _ (ap proto_paper (sym c.in-Value.is) ∙ c.proto_of-transport.ensures)
     (c.byte_answer-in-Value.ensures ∙ c.guess_response_frame_len.ensures))

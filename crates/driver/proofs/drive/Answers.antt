@@ -18,7 +18,6 @@ use Rattle.driver.proofs.drive.Goals as goal
 
 pub returns-then-bad_setup : goal.returns-then-bad_setup
 returns-then-bad_setup c =
-    let s = c in
     let a = c.args in
     let l = lending a.setup a.list.now a.coils.now a.discretes.now a.holdings.now a.inputs.now a.frame.now a.reply.now in
     ap (λ (d : Driven). leaving d a.reply.now a.coils.now a.holdings.now) c.result.ensures
@@ -26,7 +25,6 @@ returns-then-bad_setup c =
 
 pub returns-then-no_room : goal.returns-then-no_room
 returns-then-no_room c =
-    let s = c in
     let a = c.args in
     let l = lending a.setup a.list.now a.coils.now a.discretes.now a.holdings.now a.inputs.now a.frame.now a.reply.now in
     let v = good_valid a.setup a.list.now a.coils.now a.discretes.now a.holdings.now a.inputs.now a.frame.now a.reply.now (c.bad_setup.ensures.1 c.if-bad_setup.false) in
@@ -34,7 +32,6 @@ returns-then-no_room c =
 
 pub returns-then-n-lt2 : goal.returns-then-n-lt2
 returns-then-n-lt2 c =
-    let s = c in
     let a = c.args in
     let l = lending a.setup a.list.now a.coils.now a.discretes.now a.holdings.now a.inputs.now a.frame.now a.reply.now in
     let v = good_valid a.setup a.list.now a.coils.now a.discretes.now a.holdings.now a.inputs.now a.frame.now a.reply.now (c.bad_setup.ensures.1 c.if-bad_setup.false) in
@@ -57,7 +54,6 @@ slice_bounds-handle-end c =
 
 pub handle-requires : goal.handle-requires
 handle-requires c =
-    let s = c in
     let a = c.args in
     let l = lending a.setup a.list.now a.coils.now a.discretes.now a.holdings.now a.inputs.now a.frame.now a.reply.now in
     let v = good_valid a.setup a.list.now a.coils.now a.discretes.now a.holdings.now a.inputs.now a.frame.now a.reply.now (c.bad_setup.ensures.1 c.if-bad_setup.false) in
@@ -71,7 +67,6 @@ handle-requires c =
 
 pub returns : goal.returns
 returns c =
-    let s = c in
     let a = c.args in
     let l = lending a.setup a.list.now a.coils.now a.discretes.now a.holdings.now a.inputs.now a.frame.now a.reply.now in
     let v = good_valid a.setup a.list.now a.coils.now a.discretes.now a.holdings.now a.inputs.now a.frame.now a.reply.now (c.bad_setup.ensures.1 c.if-bad_setup.false) in

@@ -8,7 +8,6 @@ use Rattle.driver.proofs.handle.Goals as goal
 
 pub serve-n-requires : goal.serve-n-requires
 serve-n-requires c =
-    let s = c in
     let a = c.args in
     record {
       ready = (
@@ -21,7 +20,6 @@ serve-n-requires c =
 
 pub close-sent-requires : goal.close-sent-requires
 close-sent-requires c =
-    let s = c in
     let a = c.args in
     let f = c.serve-n.ensures in (
       served_brief a.setup a.list.now a.coils.now a.discretes.now a.holdings.now a.inputs.now a.frame.now a.reply.now a.body.now
@@ -35,7 +33,6 @@ close-sent-requires c =
 
 pub returns : goal.returns
 returns c =
-    let s = c in
     let a = c.args in
     closed_handled a.setup a.list.now a.coils.now a.discretes.now a.holdings.now a.inputs.now a.frame.now a.reply.now a.body.now
     (λ i. omega (arith, c.shared_slice_known-2-1.given i)) c.requires.in_bounds.0 c.requires.sized _ c.listed-broadcast.ensures _ c.judge-verdict.ensures

@@ -9,16 +9,12 @@ use Rattle.lengths.proofs.ascii_len.Goals as goal
 
 pub returns-in-Value : goal.returns-in-Value
 returns-in-Value c =
-    let m = c in
-    let p = c in
     let e = rw c.in-Value.is at c.parse_text-parsed.ensures in
     let a = c.args in
     c.serial_len.ensures ∙ sym (ap told (ascii_told _ _ _ (length_spelt a.hex a.text.now) _ _ e (omega arith)))
 
 pub returns-in-Refused : goal.returns-in-Refused
 returns-in-Refused c =
-    let m = c in
-    let p = c in
     let e = rw c.in-Refused.is at c.parse_text-parsed.ensures in
     let a = c.args in
     sym (ap told (ascii_halt _ _ _ (length_spelt a.hex a.text.now) _ c.in-Refused.k e))

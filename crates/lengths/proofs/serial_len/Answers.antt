@@ -14,8 +14,6 @@ returns-then-known-lt2 c = sym (ap told (serial_short _ _ _ (simp length-take (o
 
 pub frame_len-requires : goal.frame_len-requires
 frame_len-requires c =
-    let l = c in
-    let s = c in
     let a = c.args in
     let e = told_same _ (go _) (sym c.body_len-body.ensures ∙ ap size_paper c.in-Value.is) in
     let y = small_take a.known a.b.now (λ i. (c.type_inv.b i).fits) in
@@ -24,12 +22,10 @@ frame_len-requires c =
 
 pub returns-in-Value : goal.returns-in-Value
 returns-in-Value c =
-    let l = c in
     let e = told_same _ (go _) (sym c.body_len-body.ensures ∙ ap size_paper c.in-Value.is) in
     c.frame_len.ensures ∙ sym (ap told (serial_told _ _ _ _ (simp length-take (omega arith)) e))
 
 pub returns-in-Refused : goal.returns-in-Refused
 returns-in-Refused c =
-    let l = c in
     let e = told_same _ (stop c.in-Refused.k) (sym c.body_len-body.ensures ∙ ap size_paper c.in-Refused.is) in
     sym (ap told (serial_halt _ _ _ _ (simp length-take (omega arith)) e))

@@ -11,7 +11,6 @@ returns-then-broadcast c s z = sym (judged_read s _ _ both c.requires (on _ c.if
 
 pub returns-then-wrong_length : goal.returns-then-wrong_length
 returns-then-wrong_length c s z =
-    let t = c in
     let n = test_refuses _ _ c.wrong_length.ensures c.if-wrong_length.true in
     sym (judged_length s _ _ both c.requires (λ h. off _ c.if-broadcast.false h.0) n)
 
@@ -20,8 +19,6 @@ wrong_counts-requires c = (test_passes _ _ c.wrong_length.ensures c.if-wrong_len
 
 pub returns-then-wrong_counts : goal.returns-then-wrong_counts
 returns-then-wrong_counts c s z =
-    let l = c in
-    let t = c in
     let n = test_refuses _ _ c.wrong_counts.ensures c.if-wrong_counts.true in
     own_refused _ 3 c.if-broadcast.false
     ∙ sym (judged_value s _ _ both c.requires (λ h. off _ c.if-broadcast.false h.0)
@@ -29,10 +26,6 @@ returns-then-wrong_counts c s z =
 
 pub returns : goal.returns
 returns c s z =
-    let w = c in
-    let v = c in
-    let l = c in
-    let t = c in
     let o = c.if-broadcast.false in
     c.judge_ranges.ensures
     ∙ (rw (c.word.ensures, c.word-2.ensures, c.word-3.ensures, c.word-4.ensures, own_refused _ 2 o))

@@ -15,8 +15,6 @@ returns-then-wrong_length c s z =
 
 pub returns-then-wrong_count : goal.returns-then-wrong_count
 returns-then-wrong_count c s z =
-    let w = c in
-    let t = c in
     let k = kind_by c.args.bits in
     let p = c.requires in
     let l = test_passes _ _ c.wrong_length.ensures c.if-wrong_length.false in
@@ -26,14 +24,11 @@ returns-then-wrong_count c s z =
 
 pub bounds-body-6 : goal.bounds-body-6
 bounds-body-6 c =
-    let t = c in
     let l = test_passes _ _ c.wrong_length.ensures c.if-wrong_length.false in
     l.0
 
 pub returns-then-body-octets_of : goal.returns-then-body-octets_of
 returns-then-body-octets_of c s z =
-    let w = c in
-    let t = c in
     let k = kind_by c.args.bits in
     let p = c.requires in
     let l = test_passes _ _ c.wrong_length.ensures c.if-wrong_length.false in
@@ -43,9 +38,6 @@ returns-then-body-octets_of c s z =
 
 pub returns : goal.returns
 returns c s z =
-    let m = c in
-    let w = c in
-    let t = c in
     let k = kind_by c.args.bits in
     let p = c.requires in
     let l = test_passes _ _ c.wrong_length.ensures c.if-wrong_length.false in

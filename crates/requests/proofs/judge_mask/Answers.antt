@@ -11,7 +11,6 @@ returns-then-body-ne8 c s z = sym (judged_length s _ _ mask c.requires (λ h. h.
 
 pub returns-then-outside : goal.returns-then-outside
 returns-then-outside c s z =
-    let t = c in
     let n = test_refuses _ _ c.outside.ensures c.if-outside.true in
     c.refused.ensures
     ∙ sym (pick_no _ _ _ (rw c.word-address.ensures at n))
@@ -19,8 +18,6 @@ returns-then-outside c s z =
 
 pub returns : goal.returns
 returns c s z =
-    let w = c in
-    let t = c in
     let i = test_passes _ _ c.outside.ensures c.if-outside.false in
     rw (c.word-address.ensures, c.word.ensures, c.word-2.ensures)
     (sym (pick_yes _ _ _ (rw c.word-address.ensures at i))

@@ -14,7 +14,6 @@ returns-then-body-ne6 c s z =
 
 pub returns-then-wrong_value : goal.returns-then-wrong_value
 returns-then-wrong_value c s z =
-    let t = c in
     let a = c.args in
     let n = test_refuses _ _ c.wrong_value.ensures c.if-wrong_value.true in
     c.refused.ensures
@@ -22,7 +21,6 @@ returns-then-wrong_value c s z =
 
 pub returns : goal.returns
 returns c s z =
-    let t = c in
     let a = c.args in
     let y = test_passes _ _ c.wrong_value.ensures c.if-wrong_value.false in
     rw c.word.ensures at c.judge_address.ensures

@@ -12,5 +12,4 @@ returns-then-outside-2 c = sym (pick_no _ _ _ (λ h. test_refuses _ _ c.outside-
 
 pub returns : goal.returns
 returns c =
-    let f = c in
     sym (pick_yes _ _ _ (test_passes _ _ c.outside.ensures c.if-outside.false, test_passes _ _ c.outside-2.ensures c.if-outside-2.false))

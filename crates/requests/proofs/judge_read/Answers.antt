@@ -16,7 +16,6 @@ returns-then-body-ne6 c s z =
 
 pub returns-then-wrong_count : goal.returns-then-wrong_count
 returns-then-wrong_count c s z =
-    let t = c in
     let p = c.requires in
     let n = test_refuses _ _ c.wrong_count.ensures c.if-wrong_count.true in
     own_refused _ 3 c.if-broadcast.false
@@ -25,8 +24,6 @@ returns-then-wrong_count c s z =
 
 pub returns-then-outside : goal.returns-then-outside
 returns-then-outside c s z =
-    let k = c in
-    let t = c in
     let p = c.requires in
     let y = test_passes _ _ c.wrong_count.ensures c.if-wrong_count.false in
     let n = test_refuses _ _ c.outside.ensures c.if-outside.true in
@@ -37,8 +34,6 @@ returns-then-outside c s z =
 
 pub returns : goal.returns
 returns c s z =
-    let k = c in
-    let t = c in
     let p = c.requires in
     let y = test_passes _ _ c.wrong_count.ensures c.if-wrong_count.false in
     let i = test_passes _ _ c.outside.ensures c.if-outside.false in

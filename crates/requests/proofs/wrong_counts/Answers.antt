@@ -18,13 +18,10 @@ returns-then-wrong_count-2 c =
 
 pub returns-then-body-octets_of : goal.returns-then-body-octets_of
 returns-then-body-octets_of c =
-    let w = c in
     sym (pick_no (valued? both c.args.body.now) _ _ (λ h. c.if-body-octets_of.true (rw (c.octets_of.ensures, c.word-count.ensures) h.1.1.1)))
 
 pub returns : goal.returns
 returns c =
-    let w = c in
-    let f = c in
     let r = rw c.word.ensures at (test_passes _ _ c.wrong_count.ensures c.if-wrong_count.false) in
     let y = rw c.word-count.ensures at (test_passes _ _ c.wrong_count-2.ensures c.if-wrong_count-2.false) in
     sym (pick_yes (valued? both c.args.body.now) _ _ (r, (y.0, (y.1, rw (c.octets_of.ensures, c.word-count.ensures) at c.if-body-octets_of.false))))

@@ -10,19 +10,16 @@ returns-then-not-bits c = let a = c.args in any_word a.bits a.body.now c.if-not-
 
 pub returns-in-0 : goal.returns-in-0
 returns-in-0 c =
-    let t = c in
     let a = c.args in
     coil_value a.bits a.body.now c.if-not-bits.false (inl (sym c.word.ensures ∙ c.in-0.is))
 
 pub returns-in-65280 : goal.returns-in-65280
 returns-in-65280 c =
-    let t = c in
     let a = c.args in
     coil_value a.bits a.body.now c.if-not-bits.false (inr (sym c.word.ensures ∙ c.in-65280.is))
 
 pub returns-in_default : goal.returns-in_default
 returns-in_default c =
-    let t = c in
     let a = c.args in
     let e = c.word.ensures in
     no_coil_value a.bits a.body.now c.if-not-bits.false

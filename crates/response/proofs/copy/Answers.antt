@@ -9,7 +9,6 @@ use Rattle.response.proofs.copy.Goals as goal
 
 pub loop-k-preserved : goal.loop-k-preserved
 loop-k-preserved c =
-    let b = c in
     let l = c.loop-k in
     let a = c.args in
     let z : 32 * (l.k + 1) - 32 * l.k ≡ 32 = omega arith in (
@@ -21,11 +20,6 @@ loop-k-preserved c =
 
 pub returns : goal.returns
 returns c =
-    let p₅ = c in
-    let p₄ = c in
-    let p₃ = c in
-    let p₂ = c in
-    let p₁ = c in
     let l = c.loop-k in
     let a = c.args in
     let e : l.k ≡ length a.src.now / 32 = omega arith in

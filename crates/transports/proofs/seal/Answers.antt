@@ -21,5 +21,4 @@ returns-then-transport-eq1 c = rw c.if-transport-eq1.true c.seal_ascii.ensures
 
 pub returns : goal.returns
 returns c =
-    let h = c in
     rw (proto_tcp _ c.if-transport-eq0.false c.if-transport-eq1.false) c.seal_tcp.ensures

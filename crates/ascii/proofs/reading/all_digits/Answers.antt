@@ -6,7 +6,6 @@ use Rattle.ascii.proofs.reading.all_digits.Goals as goal
 
 pub loop-i-preserved : goal.loop-i-preserved
 loop-i-preserved c =
-    let l = c in
     let a = c.args in
     others_step a.«data».now a.end c.loop-i.i c.loop-i.others c.other-others.result _ c.loop-i.invariant (omega arith) (omega arith)
     (other_none _ _ c.other-others.ensures)

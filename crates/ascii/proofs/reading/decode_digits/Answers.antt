@@ -13,25 +13,20 @@ loop-i-init c =
 
 pub returns-in-Refused : goal.returns-in-Refused
 returns-in-Refused c =
-    let l = c in
     let d = begun_done _ _ _ _ _ _ _ c.loop-i.invariant.2 (omega arith) in
     (c.loop-i.invariant.0, d.0, d.1)
 
 pub returns-in-Refused-strict_digit : goal.returns-in-Refused-strict_digit
 returns-in-Refused-strict_digit c =
-    let l = c in
     let d = begun_done _ _ _ _ _ _ _ c.loop-i.invariant.2 (omega arith) in
     (c.loop-i.invariant.0, d.0, d.1)
 
 pub overflow_mul-buf : goal.overflow_mul-buf
 overflow_mul-buf c =
-    let x = c in
     omega (arith, (value_told _ _ _ c.strict_digit.ensures c.in-Value.is).0)
 
 pub overflow_add-buf : goal.overflow_add-buf
 overflow_add-buf c =
-    let y = c in
-    let x = c in
     omega (
       arith,
       (value_told _ _ _ c.strict_digit.ensures c.in-Value.is).0,
@@ -40,9 +35,6 @@ overflow_add-buf c =
 
 pub loop-i-preserved : goal.loop-i-preserved
 loop-i-preserved c =
-    let y = c in
-    let x = c in
-    let l = c in
     let a = c.args in
     let i = c.loop-i.i in
     let q : a.from + 2 * (i + 1) ≡ a.from + 2 * i + 2 = omega arith in
@@ -55,7 +47,6 @@ loop-i-preserved c =
 
 pub returns : goal.returns
 returns c =
-    let l = c in
     let a = c.args in
     let k : c.loop-i.i ≡ a.n = omega arith in
     let d = rw k at (begun_done _ _ _ _ _ _ _ c.loop-i.invariant.2 (omega arith)) in

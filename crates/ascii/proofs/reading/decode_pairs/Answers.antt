@@ -6,8 +6,6 @@ use Rattle.ascii.proofs.reading.decode_pairs.Goals as goal
 
 pub loop-i-preserved : goal.loop-i-preserved
 loop-i-preserved c =
-    let h = c in
-    let l = c in
     let a = c.args in
     let i = c.loop-i.i in
     let e = a.from + 2 * a.n in
@@ -23,7 +21,6 @@ loop-i-preserved c =
 
 pub returns : goal.returns
 returns c =
-    let l = c in
     let a = c.args in
     values_done a.«data».now (a.from + 2 * a.n) (a.from + 2 * c.loop-i.i) c.loop-i.buf (a.at + c.loop-i.i) _
     c.loop-i.invariant.3 (omega arith)

@@ -13,8 +13,6 @@ returns-then-stop_byte c = sym (pair_stop _ _ (stop_spell _ _ (stop_byte _ _ c.s
 
 pub returns-then-end-at : goal.returns-then-end-at
 returns-then-end-at c =
-    let v = c in
-    let n = c in
     let a = c.args in
     sym
     (pair_second _ _ (no_stop_spell _ _ (no_stop_byte _ _ c.stop_byte.ensures c.if-stop_byte.false)) _ _
@@ -22,30 +20,23 @@ returns-then-end-at c =
 
 pub overflow_mul-result : goal.overflow_mul-result
 overflow_mul-result c =
-    let v = c in
     let d = digit_undigit _ _ (byte_value _ _ _ c.digit_under.ensures c.in-Value.is) in
     omega arith
 
 pub overflow_add-result : goal.overflow_add-result
 overflow_add-result c =
-    let v = c in
     let d = digit_undigit _ _ (byte_value _ _ _ c.digit_under.ensures c.in-Value.is) in
     let e = digit_undigit _ _ (byte_value _ _ _ c.digit_under-in-Value.ensures c.in-Value-digit_under.is) in
     omega arith
 
 pub returns-in-Refused : goal.returns-in-Refused
 returns-in-Refused c =
-    let r = c in
     sym
     (pair_first _ _ (no_stop_spell _ _ (no_stop_byte _ _ c.stop_byte.ensures c.if-stop_byte.false)) _
     (byte_refusal _ _ _ c.digit_under.ensures c.in-Refused.is))
 
 pub returns-in-Refused-digit_under : goal.returns-in-Refused-digit_under
 returns-in-Refused-digit_under c =
-    let r = c in
-    let v = c in
-    let n = c in
-    let a = c in
     sym
     (pair_second _ _ (no_stop_spell _ _ (no_stop_byte _ _ c.stop_byte.ensures c.if-stop_byte.false)) _ _
     (byte_value _ _ _ c.digit_under.ensures c.in-Value.is)
@@ -54,10 +45,6 @@ returns-in-Refused-digit_under c =
 
 pub returns-in-Value-digit_under : goal.returns-in-Value-digit_under
 returns-in-Value-digit_under c =
-    let r = c in
-    let v = c in
-    let n = c in
-    let a = c in
     sym
     (pair_both _ _ (no_stop_spell _ _ (no_stop_byte _ _ c.stop_byte.ensures c.if-stop_byte.false)) _ _
     (byte_value _ _ _ c.digit_under.ensures c.in-Value.is)

@@ -13,7 +13,6 @@ two_places s k x y = let e : k + 1 ≡ suc k = omega arith in rw e
 
 pub loop-i-preserved : goal.loop-i-preserved
 loop-i-preserved c =
-    let l = c in
     let a = c.args in
     let i = c.loop-i.i in
     let k : a.at + 2 * i + 2 ≡ a.at + 2 * (i + 1) = omega arith in (
@@ -26,7 +25,6 @@ loop-i-preserved c =
 
 pub returns : goal.returns
 returns c =
-    let l = c in
     let a = c.args in
     rest_done a.bytes.now [] c.loop-i.dst c.loop-i.i (a.at + 2 * c.loop-i.i) _ c.loop-i.invariant.2 _ (omega arith) refl
     ∙ ap (sets a.dst.now a.at) (append-nil (text a.bytes.now))

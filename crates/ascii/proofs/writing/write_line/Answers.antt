@@ -5,6 +5,5 @@ use Rattle.ascii.proofs.writing.write_line.Goals as goal
 
 pub returns : goal.returns
 returns c =
-    let p = c in
     let a = c.args in
     text_ended a.«data».now a.res.now _ c.lay_text.ensures

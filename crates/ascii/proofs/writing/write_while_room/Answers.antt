@@ -9,16 +9,12 @@ use Rattle.ascii.proofs.writing.write_while_room.Goals as goal
 
 pub returns-then-not-put_byte : goal.returns-then-not-put_byte
 returns-then-not-put_byte c =
-    let p = c in
     let a = c.args in
     let f = no_room _ _ _ 0 (length a.res.now) c.put_byte.ensures (ap not c.if-not-put_byte.true) in
     line_none a.«data».now a.res.now _ f.1 f.0
 
 pub returns-then-not-put_two : goal.returns-then-not-put_two
 returns-then-not-put_two c =
-    let w = c in
-    let l = c in
-    let p = c in
     let a = c.args in
     let f = no_room _ _ _ (suc c.loop-i.at) (length c.loop-i.res) c.put_two.ensures (ap not c.if-not-put_two.true) in
     let e = had_room _ _ _ 0 (length a.res.now) c.put_byte.ensures (ap not c.if-not-put_byte.false) in
@@ -29,8 +25,6 @@ returns-then-not-put_two c =
 
 pub loop-i-preserved : goal.loop-i-preserved
 loop-i-preserved c =
-    let w = c in
-    let l = c in
     let a = c.args in
     let h = had_room _ _ _ (suc c.loop-i.at) (length c.loop-i.res) c.put_two.ensures (ap not c.if-not-put_two.false) in (
       omega arith,
@@ -43,9 +37,6 @@ loop-i-preserved c =
 
 pub returns-then-not-put_two-2 : goal.returns-then-not-put_two-2
 returns-then-not-put_two-2 c =
-    let w = c in
-    let l = c in
-    let p = c in
     let a = c.args in
     let f = no_room _ _ _ (suc c.loop-i.at) (length c.loop-i.res) c.put_two-2.ensures (ap not c.if-not-put_two-2.true) in
     let e = had_room _ _ _ 0 (length a.res.now) c.put_byte.ensures (ap not c.if-not-put_byte.false) in
@@ -55,9 +46,6 @@ returns-then-not-put_two-2 c =
 
 pub returns : goal.returns
 returns c =
-    let w = c in
-    let l = c in
-    let p = c in
     let a = c.args in
     let h = had_room _ _ _ (suc c.loop-i.at) (length c.loop-i.res) c.put_two-2.ensures (ap not c.if-not-put_two-2.false) in
     let e = had_room _ _ _ 0 (length a.res.now) c.put_byte.ensures (ap not c.if-not-put_byte.false) in

@@ -10,7 +10,6 @@ use Rattle.client.proofs.ModbusRequest.generate_mask.Goals as goal
 
 pub returns : goal.returns
 returns c =
-    let s = c in
     let a = c.args in
     c.send.ensures
     ∙ sym (ap (laid_into a.request.now)

@@ -5,7 +5,6 @@ use Rattle.client.proofs.build.lay_parts.Goals as goal
 
 pub returns : goal.returns
 returns c =
-    let s = c in
     let a = c.args in
     let r = c.extend in
     let q = c.extend-2 in

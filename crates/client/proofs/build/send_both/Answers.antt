@@ -7,7 +7,6 @@ use Rattle.client.proofs.build.send_both.Goals as goal
 
 pub returns : goal.returns
 returns c =
-    let s = c in
     let n = c.args.n in
     let high : n / 256 ≡ 0 = omega (arith, c.requires.0) in
     let low : n % 256 ≡ n = omega (arith, c.requires.0) in

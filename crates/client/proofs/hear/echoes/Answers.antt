@@ -8,15 +8,12 @@ use Rattle.client.proofs.hear.echoes.Goals as goal
 
 pub returns-then-body-n : goal.returns-then-body-n
 returns-then-body-n c =
-    let s = c in
     sym (pick_no _ _ _ (λ e. c.if-body-n.true (echo_length c.args.n c.args.sent.now c.args.body.now c.requires e)))
 
 pub returns-then-body-i : goal.returns-then-body-i
 returns-then-body-i c =
-    let s = c in
     sym (pick_no _ _ _ (λ e. c.if-body-i.true (echo_at c.args.n c.args.sent.now c.args.body.now c.loop-i.i e (omega arith))))
 
 pub returns : goal.returns
 returns c =
-    let s = c in
     sym (pick_yes _ _ _ (echo_same c.args.n c.args.sent.now c.args.body.now c.requires c.if-body-n.false (λ k h. c.loop-i.invariant.1 k (omega arith))))

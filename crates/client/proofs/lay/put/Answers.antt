@@ -5,12 +5,10 @@ use Rattle.client.proofs.lay.put.Goals as goal
 
 pub returns-then-bits : goal.returns-then-bits
 returns-then-bits c =
-    let s = c in
     let a = c.args in
     put_bit a.bytes.now _ a.n a.i a.value c.set_coil.result c.requires.2 c.requires.3 a.bits c.if-bits.true c.requires.0 c.requires.1 c.set_coil.ensures
 
 pub returns : goal.returns
 returns c =
-    let s = c in
     let a = c.args in
     put_word a.bytes.now _ a.n a.i a.value c.set_holding.result c.requires.2 c.requires.3 a.bits c.if-bits.false c.requires.1 c.set_holding.ensures

@@ -10,7 +10,6 @@ use Rattle.driver.proofs.close.close.Goals as goal
 
 pub returns : goal.returns
 returns c =
-    let s = c in
     let a = c.args in
     let p = proto_of a.transport in
     let tag = tag_of p (get_or a.frame.now 0 0) (get_or a.frame.now 1 0) in

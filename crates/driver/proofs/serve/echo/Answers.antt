@@ -10,7 +10,6 @@ use Rattle.driver.proofs.serve.echo.Goals as goal
 
 pub returns : goal.returns
 returns c =
-    let s = c in
     let a = c.args in
     let z : a.n - 0 ≡ a.n = omega arith in
     let n : length (take a.n a.body.now) ≡ a.n = length-take-le a.n a.body.now c.requires.0 in

@@ -7,7 +7,6 @@ use Rattle.driver.proofs.serve.exchange.Goals as goal
 
 pub returns : goal.returns
 returns c =
-    let s = c in
     let a = c.args in
     let e = words_put a.holdings.now a.cells c.requires.5 _ _ a.body.now 11 a.x.write_address a.x.write_count c.set_holdings_from_u8.ensures c.requires.2 c.requires.3 in (
       swap_read a.body.now a.holdings.now _ a.reply.now a.start a.cells a.x c.requires.5 c.requires.1 e

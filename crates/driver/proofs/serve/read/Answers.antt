@@ -14,7 +14,6 @@ use Rattle.driver.proofs.serve.read.Goals as goal
 pub returns-then-q-eq1 : goal.returns-then-q-eq1
 returns-then-q-eq1 c =
     let h = c.head-n in
-    let s = c in
     let a = c.args in
     let l = lent_in a.setup a.coils.now a.discretes.now a.holdings.now a.inputs.now in
     let r = c.requires.read_ready.0 in
@@ -27,7 +26,6 @@ returns-then-q-eq1 c =
 pub returns-then-q-eq2 : goal.returns-then-q-eq2
 returns-then-q-eq2 c =
     let h = c.head-n-then-q-eq2 in
-    let s = c in
     let a = c.args in
     let l = lent_in a.setup a.coils.now a.discretes.now a.holdings.now a.inputs.now in
     let r = c.requires.read_ready.0 in
@@ -39,7 +37,6 @@ returns-then-q-eq2 c =
 
 pub read_words-requires : goal.read_words-requires
 read_words-requires c =
-    let s = c in
     let a = c.args in
     let l = lent_in a.setup a.coils.now a.discretes.now a.holdings.now a.inputs.now in
     let r = c.requires.read_ready.0 in
@@ -49,7 +46,6 @@ read_words-requires c =
 
 pub returns-then-q-eq3 : goal.returns-then-q-eq3
 returns-then-q-eq3 c =
-    let s = c in
     let a = c.args in
     let l = lent_in a.setup a.coils.now a.discretes.now a.holdings.now a.inputs.now in
     let r = c.requires.read_ready.0 in
@@ -60,7 +56,6 @@ returns-then-q-eq3 c =
 
 pub read_words-requires-2 : goal.read_words-requires-2
 read_words-requires-2 c =
-    let s = c in
     let a = c.args in
     let l = lent_in a.setup a.coils.now a.discretes.now a.holdings.now a.inputs.now in
     let r = c.requires.read_ready.0 in
@@ -70,7 +65,6 @@ read_words-requires-2 c =
 
 pub returns : goal.returns
 returns c =
-    let s = c in
     let a = c.args in
     let l = lent_in a.setup a.coils.now a.discretes.now a.holdings.now a.inputs.now in
     let r = c.requires.read_ready.0 in

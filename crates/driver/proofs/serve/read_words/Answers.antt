@@ -11,7 +11,6 @@ use Rattle.driver.proofs.serve.read_words.Goals as goal
 pub returns : goal.returns
 returns c =
     let h = c.head-n in
-    let s = c in
     let a = c.args in
     let room : (a.start + 3) + length a.part.now ≤ length h.new.reply = rw h.ensures.1 (simp length-sets (omega (arith, c.requires))) in
     put_at_law a.start a.reply.now (get_or a.body.now 0 0 ∷ get_or a.body.now 1 0 ∷ (2 * a.count) ∷ a.part.now) _ _ (omega (arith, h.ensures.0, c.requires))

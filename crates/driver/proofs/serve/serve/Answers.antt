@@ -9,7 +9,6 @@ use Rattle.driver.proofs.serve.serve.Goals as goal
 
 pub write-requires : goal.write-requires
 write-requires c =
-    let s = c in
     let a = c.args in
     let l = lent_in a.setup a.coils.now a.discretes.now a.holdings.now a.inputs.now in
     let r = subst (Ready l a.body.now) c.in-Written.is c.requires.ready.0 in
@@ -20,7 +19,6 @@ write-requires c =
 
 pub write_mask-requires : goal.write_mask-requires
 write_mask-requires c =
-    let s = c in
     let a = c.args in
     let l = lent_in a.setup a.coils.now a.discretes.now a.holdings.now a.inputs.now in
     let r = subst (Ready l a.body.now) c.in-Masked.is c.requires.ready.0 in
@@ -28,7 +26,6 @@ write_mask-requires c =
 
 pub exchange-requires : goal.exchange-requires
 exchange-requires c =
-    let s = c in
     let a = c.args in
     let l = lent_in a.setup a.coils.now a.discretes.now a.holdings.now a.inputs.now in
     let r = subst (Ready l a.body.now) c.in-Exchanged.is c.requires.ready.0 in

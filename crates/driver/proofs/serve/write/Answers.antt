@@ -10,7 +10,6 @@ use Rattle.driver.proofs.serve.write.Goals as goal
 
 pub write_bits-requires : goal.write_bits-requires
 write_bits-requires c =
-    let s = c in
     let a = c.args in
     let l = lent_in a.setup a.coils.now [] a.holdings.now [] in
     let p = subst (λ (x : Write). Ready l a.body.now (Written x)) c.in-Bits.is (c.requires.by_index [] []) in
@@ -18,7 +17,6 @@ write_bits-requires c =
 
 pub write_words-requires : goal.write_words-requires
 write_words-requires c =
-    let s = c in
     let a = c.args in
     let l = lent_in a.setup a.coils.now [] a.holdings.now [] in
     let p = subst (λ (x : Write). Ready l a.body.now (Written x)) c.in-Words.is (c.requires.by_index [] []) in

@@ -11,7 +11,6 @@ use Rattle.driver.proofs.serve.write_bits.Goals as goal
 
 pub returns : goal.returns
 returns c =
-    let s = c in
     let a = c.args in
     let x = c.args.c in
     let z : (x.at + (x.count + 7) / 8) - x.at ≡ (x.count + 7) / 8 = omega arith in

@@ -10,7 +10,6 @@ use Rattle.driver.proofs.serve.write_mask.Goals as goal
 pub returns : goal.returns
 unfolding masked register_at
 returns c =
-    let s = c in
     let a = c.args in
     changed_put registers a.holdings.now a.cells c.requires.1 _ _ a.m.address _ c.set_holding.ensures (omega (arith, c.requires.0))
     ∙ ap (λ old. put_register a.holdings.now a.m.address (masked old a.m.and_mask a.m.or_mask)) c.word-old.ensures

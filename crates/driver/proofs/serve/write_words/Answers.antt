@@ -8,7 +8,6 @@ use Rattle.driver.proofs.serve.write_words.Goals as goal
 
 pub returns-then-at-eq4 : goal.returns-then-at-eq4
 returns-then-at-eq4 c =
-    let s = c in
     let a = c.args in
     let x = c.args.c in
     let e = c.if-at-eq4.true in
@@ -18,6 +17,5 @@ returns-then-at-eq4 c =
 
 pub returns : goal.returns
 returns c =
-    let s = c in
     let a = c.args in
     words_put a.holdings.now a.cells c.requires.3 _ _ a.body.now a.c.at a.c.address a.c.count c.set_holdings_from_u8.ensures c.requires.0 c.requires.1

@@ -35,7 +35,6 @@ starts-init c =
 
 pub loop-n-init : goal.loop-n-init
 loop-n-init c =
-    let l = c in
     let a = c.args in (
       c.starts.invariant.0,
       (omega arith, (omega arith, (c.opening-register.ensures, c.starts.invariant.1 ∙ next_start a.«record».now _ c.starts.start c.starts-test.true ∙ ap (λ m. lengths a.«record».now c.starts.start (suc m - 4) 4 (starts a.«record».now (c.last_start-last.result - suc c.starts.start) (suc c.starts.start))) (sym c.least-most.ensures)))),
@@ -43,8 +42,6 @@ loop-n-init c =
 
 pub loop-n-preserved : goal.loop-n-preserved
 loop-n-preserved c =
-    let l = c in
-    let o = c in
     let a = c.args in
     let r = a.«record».now in
     let n = c.loop-n.n in
@@ -67,19 +64,14 @@ loop-n-preserved c =
 
 pub starts-preserved : goal.starts-preserved
 starts-preserved c =
-    let l = c in
-    let o = c in
     (c.loop-n.invariant.0, c.loop-n.invariant.1.1.1.1 ∙ no_more _ _ _ c.loop-n.n _ (omega arith) ∙ on_start _ _ c.starts.start)
 
 pub returns-after-starts : goal.returns-after-starts
 returns-after-starts c =
-    let o = c in
     ap paper c.starts.invariant.0 ∙ sym (c.starts.invariant.1 ∙ no_start _ _ c.starts.start (omega arith))
 
 pub returns-then-ends : goal.returns-then-ends
 returns-then-ends c =
-    let l = c in
-    let o = c in
     let a = c.args in
     let r = a.«record».now in
     let n = c.loop-n.n in

@@ -10,7 +10,6 @@ use Rattle.tables.proofs.coils.copy_whole.Goals as goal
 
 pub loop-i-preserved : goal.loop-i-preserved
 loop-i-preserved c =
-    let l = c in
     let a = c.args in
     let y = bytes_by a.src.now (λ i. omega (arith, c.type_inv.src i)) in (
       omega arith,
@@ -21,6 +20,5 @@ loop-i-preserved c =
 
 pub returns : goal.returns
 returns c =
-    let l = c in
     let a = c.args in
     pack_done (coil_at a.src.now) c.loop-i.dst a.at a.from a.n c.loop-i.i _ c.loop-i.invariant.2 (omega arith)

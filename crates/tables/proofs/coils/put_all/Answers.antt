@@ -11,7 +11,6 @@ use Rattle.tables.proofs.coils.put_all.Goals as goal
 
 pub returns : goal.returns
 returns c =
-    let u = c in
     let p = c in
     let g = c in
     let a = c.args in

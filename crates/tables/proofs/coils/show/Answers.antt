@@ -11,14 +11,12 @@ returns-then-n-eq1 c =
 
 pub returns-then-n-gt0 : goal.returns-then-n-gt0
 returns-then-n-gt0 c =
-    let w = c in
     let a = c.args in
     show_rest (coil_at a.src.now) a.from a.dst.now c.copy_whole.new.dst a.at a.n c.copy_whole.ensures
     c.run_at-then-n-gt0.result c.if-n-gt0.true c.run_at-then-n-gt0.ensures
 
 pub returns-else-n-gt0 : goal.returns-else-n-gt0
 returns-else-n-gt0 c =
-    let w = c in
     let a = c.args in
     show_whole (coil_at a.src.now) a.from a.dst.now c.copy_whole.new.dst a.at a.n c.copy_whole.ensures
     c.if-n-gt0.false

@@ -18,7 +18,6 @@ returns-then-size-end c = sym (ap (told_with _) (added_outside registers _ _ _ _
 
 pub returns : goal.returns
 returns c =
-    let s = c in
     let a = c.args in
     let k : 2 * (a.reg + a.count) - 2 * a.reg ≡ 2 * a.count = omega arith in
     let d = take (2 * a.count) (drop (2 * a.reg) a.table.now) in

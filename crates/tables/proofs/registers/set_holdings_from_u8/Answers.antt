@@ -37,7 +37,6 @@ returns-then-values-ne0 c = sym (ap (told_with _) (stored_unmatched registers _ 
 pub returns : goal.returns
 unfolding stored_whole
 returns c =
-    let s = c in
     let a = c.args in
     let b : (i : ℕ) → get_or a.values.now i 0 < 256 = λ i. omega (arith, c.type_inv.values i) in
     let e = stored_bytes a.table.now a.reg (length a.values.now / 2) a.values.now (omega arith) b in

@@ -8,20 +8,17 @@ use Rattle.transports.proofs.lines.check_lrc.Goals as goal
 
 pub returns-then-raw-k : goal.returns-then-raw-k
 returns-then-raw-k c =
-    let m = c in
     let a = c.args in
     let e = lrc_value _ a.raw.now _ (omega arith) c.calc_lrc.ensures _ c.in-Value.is in
     sym (ap opened (lrc_wrong a.raw.now a.n (omega arith) (omega arith) (λ h. c.if-raw-k.true (h ∙ sym e))))
 
 pub returns-in-Refused : goal.returns-in-Refused
 returns-in-Refused c =
-    let m = c in
     let a = c.args in
     absurd (lrc_never _ a.raw.now _ (omega arith) c.calc_lrc.ensures _ c.in-Refused.is)
 
 pub returns-else-raw-k : goal.returns-else-raw-k
 returns-else-raw-k c =
-    let m = c in
     let a = c.args in
     let e = lrc_value _ a.raw.now _ (omega arith) c.calc_lrc.ensures _ c.in-Value.is in
     sym (length-take-le _ a.raw.now (omega arith))

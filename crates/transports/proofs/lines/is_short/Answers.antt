@@ -8,8 +8,6 @@ use Rattle.transports.proofs.lines.is_short.Goals as goal
 
 pub returns : goal.returns
 returns c = λ e.
-    let p = c in
-    let q = c in
     let f = c.args.line.now in
     let n = or_none c.others_in_eight.result c.others_in_eight-2.result (omega arith) in
     let h : length f ≡ 17 = omega (arith, eqb-true) in

@@ -19,9 +19,6 @@ loop-i-init c = (omega arith, refl, refl, refl)
 
 pub loop-i-preserved : goal.loop-i-preserved
 loop-i-preserved c =
-    let d = c in
-    let w = c in
-    let l = c in
     let a = c.args in
     let s = c.args.bytes.now in
     let i = c.loop-i.i in
@@ -37,7 +34,6 @@ loop-i-preserved c =
 
 pub returns : goal.returns
 returns c =
-    let l = c in
     let a = c.args in
     let s = c.args.bytes.now in
     let i = c.loop-i.i in (

@@ -6,8 +6,6 @@ use Rattle.transports.proofs.lines.lay_front.Goals as goal
 
 pub returns-then-n-lt16 : goal.returns-then-n-lt16
 returns-then-n-lt16 c =
-    let m = c in
-    let l = c in
     let a = c.args in
     rw (copied_front a.reply.now _ _ a.n c.extend.result c.extend.ensures (omega arith) (omega arith)) at c.lay_few.ensures
 
@@ -16,7 +14,5 @@ slice_bounds-extend-end-4 c = sym (length-take-le 256 c.args.reply.now (omega ar
 
 pub returns : goal.returns
 returns c =
-    let m = c in
-    let l = c in
     let a = c.args in
     rw (copied_front a.reply.now _ _ a.n c.extend-2.result c.extend-2.ensures (omega arith) (omega arith)) at c.lay_many.ensures

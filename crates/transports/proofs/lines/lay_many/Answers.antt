@@ -9,14 +9,11 @@ use Rattle.transports.proofs.lines.lay_many.Goals as goal
 
 pub returns-in-Refused : goal.returns-in-Refused
 returns-in-Refused c =
-    let l = c in
     let s = c.args.bytes.now in
     absurd (lrc_never _ s (length s) (omega arith) c.calc_lrc.ensures _ c.in-Refused.is)
 
 pub returns-in-Value : goal.returns-in-Value
 returns-in-Value c =
-    let l = c in
-    let t = c in
     let a = c.args in
     let s = c.args.bytes.now in (
       lrc_value _ s (length s) (omega arith) c.calc_lrc.ensures _ c.in-Value.is ∙ ap lrc (take-length s),

@@ -28,7 +28,6 @@ read p = (
 
 pub returns-then-unlined : goal.returns-then-unlined
 returns-then-unlined c =
-    let s = c in
     let f = c.args.frame.now in
     let n = not_lined f _ c.unlined.ensures c.if-unlined.true in
     let t = text_unlined (spelt c.args.hex f) _ (λ h. n (spelt_lined c.args.hex f h)) in
@@ -36,7 +35,6 @@ returns-then-unlined c =
 
 pub returns-then-is_short : goal.returns-then-is_short
 returns-then-is_short c =
-    let s = c in
     let f = c.args.frame.now in
     let h = is_lined f _ c.unlined.ensures c.if-unlined.false in
     let e = c.decode_eight.ensures.raw_after in

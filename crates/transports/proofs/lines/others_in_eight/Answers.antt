@@ -7,6 +7,5 @@ use Rattle.transports.proofs.lines.others_in_eight.Goals as goal
 
 pub loop-i-preserved : goal.loop-i-preserved
 loop-i-preserved c =
-    let l = c in
     let a = c.args in
     (omega arith, digits_more a.line.now a.at c.loop-i.i c.loop-i.others _ c.loop-i.invariant.1 (other_none _ _ c.other-others.ensures))

@@ -10,7 +10,6 @@ returns-then-reply-lt511 c = sealed_none Ascii [] _ _ (λ h. omega arith)
 
 pub returns : goal.returns
 returns c =
-    let l = c in
     let a = c.args in
     let e = c.lay_front-check.ensures in
     ascii_sealed a.reply.now a.n (omega arith) (omega arith) _ _ e.0 e.1 _ _ c.low_digit.ensures

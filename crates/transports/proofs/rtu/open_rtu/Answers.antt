@@ -21,6 +21,5 @@ returns-then-frame-n-2 c =
 
 pub returns : goal.returns
 returns c =
-    let k = c in
     rtu_length c.args.frame.now
     ∙ sym (ap opened (rtu_body _ _ (omega arith) c.calc_crc16-crc.ensures c.if-frame-n.false c.if-frame-n-2.false))
