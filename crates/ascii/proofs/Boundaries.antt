@@ -4,9 +4,7 @@
 use Rattle.std.proofs.Common.{◌≡◌, ℕ, List, [], ◌∷◌, map, replicate, refl}
 use mathlib.Core.Logic.Dec
 use native.Mathlib.Decide.{dec_le, ℕ_discrete}
-use lib.Seq.{sets}
 use Rattle.modbus.specs.Step.{◌>>=◌, ◌>>◌, need, choose, ◌or?◌}
-use Rattle.modbus.specs.Check.{sum, lrc}
 use Rattle.modbus.specs.Hex.{digit, undigit, raised, spell, spelt, text}
 use Rattle.ascii.specs.Reading.{onward, or_refused, second, pair, placed, decode, text_parsed, parsed_into, parsed_under, generated_into}
 

@@ -1,6 +1,6 @@
 -- What a reading under a switch comes to: a colon and the stop bytes are no letters, digits stand for themselves, and strict is the crate's reading.
 -- Assumes nothing.
-use Rattle.std.proofs.Common.{◌≡◌, ℕ, ◌<◌, ◌≤◌, List, [], ◌∷◌, length, get_or, take, drop, sym, refl, ap, ◌∙◌, ⊎_elim, arith}
+use Rattle.std.proofs.Common.{◌≡◌, ℕ, ◌<◌, ◌≤◌, List, [], ◌∷◌, length, get_or, take, drop, sym, ap, ◌∙◌, ⊎_elim, arith}
 use Rattle.modbus.specs.Step.{choose, ◌≤?◌, ◌≟◌}
 use Rattle.modbus.specs.Bytes.{All}
 use Rattle.modbus.specs.Hex.{undigit, spell, spelt}

@@ -1,7 +1,7 @@
 -- The driver (document 01, "What the driver returns"): every fault in document 01's order, one line each, the first wins; and what each
 -- outcome leaves.
 -- Assumes nothing.
-use Rattle.std.specs.Prelude.{List, [], ◌∷◌, ◌++◌, ℕ, ◌+◌, get_or}
+use Rattle.std.specs.Prelude.{List, [], ◌∷◌, ◌++◌, ℕ, get_or}
 use Rattle.modbus.specs.Step.{Step, stop, go, ◌>>=◌, ◌>>◌, need, choose, ◌≤?◌, ◌≟◌, ◌and?◌, ◌or?◌, not?}
 use Rattle.modbus.specs.Table.{Range, Tables}
 use Rattle.modbus.specs.Request.{code, offered, Ask, reading, writing, apply, seen, found, answer, exception}

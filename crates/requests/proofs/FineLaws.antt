@@ -11,10 +11,10 @@ use lib.Seq.{take-length}
 use Rattle.modbus.specs.Step.{Step, stop, go}
 use Rattle.modbus.specs.Bytes.{All, word_at}
 use Rattle.modbus.specs.Table.{Kind, bit, word, Tab, holdings, kind_of, target, Fits, part}
-use Rattle.modbus.specs.Request.{Fn, reads, one, many, mask, both, code, Ask, read, write, writes, masks, swaps, most_read, most_swapped, most_written, octets}
+use Rattle.modbus.specs.Request.{Fn, reads, one, many, mask, both, code, Ask, read, write, writes, masks, swaps, most_read, most_written, octets}
 use Rattle.modbus.specs.Storage.{coil_at, register_at, values}
 use Rattle.modbus.specs.Setup.{Setup}
-use Rattle.modbus.specs.Decode.{outcome_of, IsRead, Lengthy, Valued, asked}
+use Rattle.modbus.specs.Decode.{IsRead, Lengthy, Valued, asked}
 use Rattle.modbus.specs.Drive.{Inside, weigh}
 use Rattle.modbus.proofs.StepLaws.{bound_stop, needed_stop}
 use Rattle.modbus.proofs.StorageLaws.{length_part}
@@ -31,7 +31,7 @@ use Rattle.requests.specs.declared.Exchange.{Exchange}
 use Rattle.requests.specs.declared.Write.TheVariants.{Bits, Words}
 use Rattle.requests.specs.declared.Verdict.{Verdict}
 use Rattle.requests.specs.declared.Verdict.TheVariants.{Read, Written, Masked, Exchanged, Refused, Quiet}
-use Rattle.requests.proofs.JudgedLaws.{on, many_kept}
+use Rattle.requests.proofs.JudgedLaws.{many_kept}
 
 -- ---- what a verdict promises of its body
 

@@ -4,14 +4,14 @@ use mathlib.Core.Bool.{Bool, true, false}
 use mathlib.Core.Logic.{◌⊎◌, ◌≢◌, by_cases}
 use mathlib.Core.Path.{◌≡◌, refl, sym, ap, subst, ◌∙◌}
 use mathlib.Core.List.{List, [], ◌∷◌, ◌++◌}
-use Prim.Native.Nat.{ℕ, ◌+◌, ◌≤◌, ◌<◌}
+use Prim.Native.Nat.{ℕ, ◌+◌, ◌<◌}
 use native.Mathlib.Omega.{arith}
 use lib.ListN.{length, get_or, drop, get_or-eq_default}
 use Rattle.modbus.specs.Step.{Step, go, ◌>>◌, need, choose, ◌≤?◌, ◌and?◌, not?}
 use Rattle.modbus.specs.Bytes.{word_at}
 use Rattle.modbus.specs.Table.{Kind, bit, word, Tab, coils, discretes, holdings, inputs, target, Range}
-use Rattle.modbus.specs.Request.{Fn, reads, one, many, both, code, tab_of, Ask, read, write, reading, writing}
-use Rattle.modbus.specs.Storage.{datum, values}
+use Rattle.modbus.specs.Request.{Fn, reads, one, many, both, code, tab_of, Ask, reading, writing}
+use Rattle.modbus.specs.Storage.{datum}
 use Rattle.modbus.specs.Setup.{Setup, proto}
 use Rattle.modbus.specs.Decode.{wrong_length_quiet, outcome_of, IsRead, is_read?, Lengthy, lengthy?, Valued, valued?, asked}
 use Rattle.modbus.specs.Drive.{AllWithin, Inside, inside?, weigh}

@@ -4,7 +4,7 @@ use mathlib.Core.Path.{◌≡◌, refl, sym, ◌∙◌}
 use mathlib.Core.Bool.{cond}
 use mathlib.Core.List.{List, [], ◌∷◌}
 use lib.Dec.{eqb}
-use Rattle.modbus.specs.Table.{Tab, coils, discretes, holdings, inputs, Sizes}
+use Rattle.modbus.specs.Table.{coils, discretes, holdings, inputs, Sizes}
 use Rattle.modbus.specs.Setup.{Setup}
 use Rattle.modbus.proofs.Unique.{Unique, by_back}
 use Prim.Native.Nat.{ℕ}

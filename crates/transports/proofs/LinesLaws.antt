@@ -1,7 +1,7 @@
 -- A line of seven bytes: its digits by place, and its bytes as a loop decodes them.
 -- Assumes nothing.
 use mathlib.Core.Logic.{by_cases}
-use Rattle.std.proofs.Common.{◌≡◌, ℕ, ◌+◌, ◌-◌, ◌*◌, ◌%◌, ◌<◌, ◌≤◌, List, [], ◌∷◌, length, get_or, take, drop, set, refl, ap, ◌∙◌, subst, add-one, arith, length-drop, drop_of_length-le, length-take, get_or-drop, get_or-take}
+use Rattle.std.proofs.Common.{◌≡◌, ℕ, ◌+◌, ◌-◌, ◌*◌, ◌≤◌, List, [], length, get_or, take, drop, set, refl, ap, ◌∙◌, subst, add-one, arith, length-drop, drop_of_length-le, length-take, get_or-drop, get_or-take}
 use lib.Bits.{bit_or}
 use lib.Seq.{sets, take-set-le}
 use Rattle.modbus.specs.Step.{◌≤?◌}

@@ -1,6 +1,6 @@
 -- `checks::calc_lrc` meets its contract. The loop's invariant: the running byte is the LRC of the bytes passed.
 -- Assumes nothing.
-use Rattle.std.proofs.Common.{◌≡◌, ℕ, ◌-◌, sym, refl, ap, ◌∙◌, arith}
+use Rattle.std.proofs.Common.{◌≡◌, ℕ, sym, refl, ap, ◌∙◌, arith}
 use Rattle.modbus.specs.Paper.{told}
 use Rattle.modbus.specs.Check.{sum, lrc}
 use Rattle.modbus.proofs.StepLaws.{pass, fail}

@@ -1,7 +1,7 @@
 -- `checks::crc_byte` meets its contract. The loop's invariant: the shifts that are left take the register to the result.
 -- Assumes nothing.
-use Rattle.std.proofs.Common.{◌-◌, refl, arith}
-use Rattle.modbus.specs.Check.{shifts, crc_byte}
+use Rattle.std.proofs.Common.{refl, arith}
+use Rattle.modbus.specs.Check.{crc_byte}
 use Rattle.modbus.proofs.CheckLaws.{shifts_step, shifts_done}
 use Rattle.checks.proofs.crc_byte.Goals as goal
 

@@ -1,7 +1,6 @@
 -- `checks::crc_four` meets its contract. The loop's invariant: the shifts that are left take the register to the result.
 -- Assumes nothing.
-use Rattle.std.proofs.Common.{◌-◌, arith}
-use Rattle.modbus.specs.Check.{shifts}
+use Rattle.std.proofs.Common.{arith}
 use Rattle.modbus.proofs.CheckLaws.{shifts_step, shifts_done}
 use Rattle.checks.proofs.FourLaws.{four_out}
 use Rattle.checks.proofs.crc_four.Goals as goal

@@ -1,6 +1,6 @@
 -- `checks::crc_fours` meets its contract. The loop's invariant: the bytes that are left take the register to the result.
 -- Assumes nothing.
-use Rattle.std.proofs.Common.{◌≡◌, ◌+◌, ◌-◌, ◌*◌, refl, arith}
+use Rattle.std.proofs.Common.{◌≡◌, ◌+◌, ◌*◌, refl, arith}
 use Rattle.modbus.specs.Check.{crc}
 use Rattle.checks.proofs.FourLaws.{moved, crc_four}
 use Rattle.checks.proofs.crc_fours.Goals as goal

@@ -1,7 +1,6 @@
 -- `checks::crc_two` meets its contract. The loop's invariant: the shifts that are left take the register to the result.
 -- Assumes nothing.
-use Rattle.std.proofs.Common.{◌-◌, arith}
-use Rattle.modbus.specs.Check.{shifts}
+use Rattle.std.proofs.Common.{arith}
 use Rattle.modbus.proofs.CheckLaws.{shifts_step, shifts_done}
 use Rattle.checks.proofs.FourLaws.{two_out}
 use Rattle.checks.proofs.crc_two.Goals as goal

@@ -1,8 +1,7 @@
 -- `response::copy_block` meets its contract. The first loop's invariant: the first i bytes are read; the second's: they are written.
 -- Assumes nothing.
-use Prim.Native.Nat.{◌-◌}
 use native.Mathlib.Omega.{arith}
-use lib.ListN.{length, length-set}
+use lib.ListN.{length-set}
 use Rattle.response.proofs.BoundedLaws.{copied_more}
 use Rattle.response.proofs.copy_block.Goals as goal
 

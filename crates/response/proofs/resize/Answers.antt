@@ -3,7 +3,7 @@
 use mathlib.Core.Path.{◌≡◌, sym, ap}
 use Prim.Native.Nat.{◌-◌}
 use native.Mathlib.Omega.{arith}
-use lib.ListN.{length, length-set}
+use lib.ListN.{length-set}
 use Rattle.modbus.specs.Paper.{told_with}
 use Rattle.response.proofs.BoundedLaws.{resized_fits, resized_long, resized_full, filled_more}
 use Rattle.response.proofs.resize.Goals as goal

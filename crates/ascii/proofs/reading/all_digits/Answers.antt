@@ -1,6 +1,6 @@
 -- `ascii::reading::all_digits` meets its contract. The loop's invariant: if there was no other character and digits are left, all are digits.
 -- Assumes nothing.
-use Rattle.std.proofs.Common.{◌-◌, arith}
+use Rattle.std.proofs.Common.{arith}
 use Rattle.ascii.proofs.PlainLaws.{other_none, others_step}
 use Rattle.ascii.proofs.reading.all_digits.Goals as goal
 

@@ -1,6 +1,6 @@
 -- `ascii::reading::decode_digits` meets its contract. The loop's invariant: the pairs before i are decoded, whatever the number of those to come.
 -- Assumes nothing.
-use Rattle.std.proofs.Common.{◌≡◌, suc, ◌+◌, ◌-◌, ◌*◌, length, refl, arith, length-set}
+use Rattle.std.proofs.Common.{◌≡◌, suc, ◌+◌, ◌*◌, refl, arith, length-set}
 use Rattle.ascii.proofs.PlainLaws.{value_told, begun_start, begun_on, begun_done}
 use Rattle.ascii.proofs.reading.decode_digits.Goals as goal
 

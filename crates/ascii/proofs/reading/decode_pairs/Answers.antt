@@ -1,6 +1,6 @@
 -- `ascii::reading::decode_pairs` meets its contract. The loop's invariant: the pairs that are left make the buffer the one asked.
 -- Assumes nothing.
-use Rattle.std.proofs.Common.{◌≡◌, suc, ◌+◌, ◌-◌, ◌*◌, length, arith, length-set}
+use Rattle.std.proofs.Common.{◌≡◌, suc, ◌+◌, ◌*◌, arith, length-set}
 use Rattle.ascii.proofs.PlainLaws.{digits_two, values_step, values_done}
 use Rattle.ascii.proofs.reading.decode_pairs.Goals as goal
 

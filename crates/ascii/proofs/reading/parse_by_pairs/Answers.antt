@@ -1,6 +1,6 @@
 -- `ascii::reading::parse_by_pairs` meets its contract. The loop's invariant: what is left of the reading comes to what was left at its start.
 -- Assumes nothing.
-use Rattle.std.proofs.Common.{not, ◌≡◌, ℕ, ◌+◌, ◌-◌, ◌*◌, ◌/◌, ◌≤◌, min, List, [], ◌∷◌, length, get_or, take, drop, sym, refl, ap, ◌∙◌, arith}
+use Rattle.std.proofs.Common.{not, ◌≡◌, ℕ, ◌+◌, ◌-◌, ◌*◌, ◌≤◌, min, List, [], ◌∷◌, length, get_or, take, drop, sym, refl, ap, ◌∙◌, arith}
 use lib.Seq.{set_out}
 use Rattle.modbus.specs.Step.{Step, choose, ◌≤?◌}
 use Rattle.modbus.specs.declared.ErrorKind.TheVariants.{OOB}
@@ -8,8 +8,6 @@ use Rattle.modbus.specs.Hex.{spell, spelt}
 use Rattle.modbus.proofs.StepLaws.{pick_yes, pick_no}
 use Rattle.modbus.proofs.HexLaws.{length_spelt, get_d_spelt}
 use Rattle.ascii.specs.Reading.{Ending, finished, refused, pair, parsed_into}
-use Rattle.ascii.specs.Said.{said}
-use Rattle.ascii.specs.declared.reading.Pair.{Pair}
 use Rattle.octets.proofs.PutLaws.{no_room, had_room}
 use Rattle.ascii.proofs.ReadingLaws.{length_kept, resumed, resumed_start, resumed_done, resumed_stop, resumed_go, parsed_none, placed_full, placed_stop, placed_outside}
 use Rattle.ascii.proofs.PlainLaws.{begin_small, quick_room, resumed_digits}

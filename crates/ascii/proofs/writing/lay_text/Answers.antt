@@ -1,10 +1,10 @@
 -- `ascii::writing::lay_text` meets its contract. The loop's invariant: what is left of the text makes the buffer the one asked.
 -- Assumes nothing.
-use Rattle.std.proofs.Common.{◌≡◌, ℕ, suc, ◌+◌, ◌-◌, ◌*◌, List, [], ◌∷◌, length, set, refl, ap, ◌∙◌, append-nil, arith, length-set}
+use Rattle.std.proofs.Common.{◌≡◌, ℕ, suc, ◌+◌, ◌*◌, List, [], ◌∷◌, set, refl, ap, ◌∙◌, append-nil, arith, length-set}
 use lib.Bits.{and_mask}
 use lib.Seq.{sets}
 use Rattle.modbus.specs.Hex.{digit, text}
-use Rattle.ascii.proofs.ReadingLaws.{rest, rest_step, rest_done}
+use Rattle.ascii.proofs.ReadingLaws.{rest_step, rest_done}
 use Rattle.ascii.proofs.writing.lay_text.Goals as goal
 
 -- the places of two characters, as the code counts them

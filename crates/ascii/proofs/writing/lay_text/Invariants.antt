@@ -1,6 +1,6 @@
 -- `ascii::writing::lay_text` meets its contract. The loop's invariant: what is left of the text makes the buffer the one asked.
 -- Assumes nothing.
-use Rattle.std.proofs.Common.{◌≡◌, ◌+◌, ◌-◌, ◌*◌, ◌≤◌, [], length, set}
+use Rattle.std.proofs.Common.{◌≡◌, ◌+◌, ◌-◌, ◌*◌, ◌≤◌, [], length}
 use lib.Seq.{sets}
 use Rattle.ascii.proofs.ReadingLaws.{rest}
 use Rattle.ascii.proofs.writing.lay_text.Given as goal

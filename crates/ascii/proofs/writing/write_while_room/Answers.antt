@@ -1,10 +1,10 @@
 -- `ascii::writing::write_while_room` meets its contract. The loop's invariant: what is left of the line makes the result the one asked.
 -- Assumes nothing.
-use Rattle.std.proofs.Common.{not, suc, ◌-◌, [], ◌∷◌, length, ap, ◌∙◌, arith}
+use Rattle.std.proofs.Common.{not, suc, [], ◌∷◌, length, ap, ◌∙◌, arith}
 use lib.Bits.{and_mask}
 use Rattle.modbus.specs.Hex.{digit}
 use Rattle.octets.proofs.PutLaws.{no_room, had_room}
-use Rattle.ascii.proofs.ReadingLaws.{length_kept, rest, crlf, rest_step, rest_cut, rest_done, length_line, line_none, line_refused, line_written}
+use Rattle.ascii.proofs.ReadingLaws.{length_kept, crlf, rest_step, rest_cut, rest_done, length_line, line_none, line_refused, line_written}
 use Rattle.ascii.proofs.writing.write_while_room.Goals as goal
 
 pub returns-then-not-put_byte : goal.returns-then-not-put_byte

@@ -1,6 +1,6 @@
 -- `transports::lines::decode_eight` meets its contract. The loop's invariant: the pairs that are left make the first seven bytes those of the line.
 -- Assumes nothing.
-use Rattle.std.proofs.Common.{◌-◌, length, refl, arith, length-set}
+use Rattle.std.proofs.Common.{refl, arith, length-set}
 use Rattle.transports.proofs.LinesLaws.{seven_start, seven_step, seven_end}
 use Rattle.transports.proofs.lines.decode_eight.Goals as goal
 

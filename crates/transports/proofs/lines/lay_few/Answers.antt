@@ -1,12 +1,12 @@
 -- `transports::lines::lay_few` meets its contract. The loop's invariant: what is left of the text makes the buffer the one asked, and the LRC of the
 -- bytes passed is at hand.
 -- Assumes nothing.
-use Rattle.std.proofs.Common.{◌≡◌, ℕ, suc, ◌+◌, ◌-◌, ◌*◌, ◌/◌, ◌%◌, ◌<◌, [], length, take, refl, ap, ◌∙◌, append-nil, arith, length-set, take_all}
+use Rattle.std.proofs.Common.{◌≡◌, ℕ, suc, ◌+◌, ◌*◌, ◌/◌, ◌%◌, ◌<◌, [], refl, ap, ◌∙◌, append-nil, arith, length-set, take_all}
 use lib.Seq.{sets}
 use Rattle.modbus.specs.Check.{sum, lrc}
 use Rattle.modbus.specs.Hex.{digit, text}
 use Rattle.modbus.proofs.CheckLaws.{lrc_step}
-use Rattle.ascii.proofs.ReadingLaws.{rest, rest_step, rest_done}
+use Rattle.ascii.proofs.ReadingLaws.{rest_step, rest_done}
 use Rattle.transports.proofs.lines.lay_few.Goals as goal
 
 -- a byte's upper half

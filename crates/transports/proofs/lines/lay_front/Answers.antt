@@ -1,6 +1,6 @@
 -- `transports::lines::lay_front` meets its contract: the array's first bytes are those of the reply.
 -- Assumes nothing.
-use Rattle.std.proofs.Common.{sym, arith, length-take, length-take-le}
+use Rattle.std.proofs.Common.{sym, arith, length-take-le}
 use Rattle.transports.proofs.SealedLaws.{copied_front}
 use Rattle.transports.proofs.lines.lay_front.Goals as goal
 

@@ -1,6 +1,6 @@
 -- `transports::lines::others_in_eight` meets its contract. The loop's invariant: if there was no other character, those passed are digits.
 -- Assumes nothing.
-use Rattle.std.proofs.Common.{◌-◌, arith}
+use Rattle.std.proofs.Common.{arith}
 use Rattle.ascii.proofs.PlainLaws.{other_none}
 use Rattle.transports.proofs.LinesLaws.{digits_more}
 use Rattle.transports.proofs.lines.others_in_eight.Goals as goal

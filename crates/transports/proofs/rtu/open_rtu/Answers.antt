@@ -1,6 +1,6 @@
 -- `transports::rtu::open_rtu` meets its contract: each way out is a law of an RTU frame.
 -- Assumes nothing.
-use Rattle.std.proofs.Common.{◌-◌, length, sym, ap, ◌∙◌, arith}
+use Rattle.std.proofs.Common.{sym, ap, ◌∙◌, arith}
 use Rattle.transports.specs.Opened.{opened}
 use Rattle.transports.proofs.OpenedLaws.{rtu_broken, rtu_check, rtu_body, rtu_length}
 use Rattle.transports.proofs.rtu.open_rtu.Goals as goal
