@@ -39,7 +39,7 @@ get_inputs_as_u8 κs a x y u v p q =
 pub set_holdings_from_u8 : Unique 2 set-holdings-kinds.ps set-holdings-kinds.r set-holdings-reads.Post
 set_holdings_from_u8 κs a x y u v p q = told_apart done_paper done_paper_law (λ l. (l, u.1)) x y _ _ (p ∙ sym q)
 
--- of a part: what it holds and where it stands. A reference of the logic also has a name, which no code can see
+-- of a part: what it holds and where it stands
 pub read_registers : (κs : Lfts 1) (a : Dens κs read-registers-kinds.ps) (x y : (res_t read-registers-kinds.r κs).Denot)
     (u v : Lasts (ended_of 1 read-registers-kinds.ps read-registers-kinds.r) κs a)
     → read-registers-reads.Post κs a x (at_exit (ended_of 1 read-registers-kinds.ps read-registers-kinds.r) κs a u)

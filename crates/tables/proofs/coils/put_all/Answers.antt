@@ -11,12 +11,10 @@ use Rattle.tables.proofs.coils.put_all.Goals as goal
 
 pub returns : goal.returns
 returns c =
-    let p = c in
-    let g = c in
     let a = c.args in
     let first = c.put_run.new.dst in
     let head = c.head_of-head.result in
     let y = bytes_by first (search rules) in
     store_three (coil_at a.src.now) (coil_bit a.src.now) a.dst.now first c.copy_whole.new.dst _ a.at head
-    ((a.n - head) / 8) a.n y (omega (arith, p)) (λ h. omega (arith, g)) (omega (arith, g)) c.put_run.ensures
+    ((a.n - head) / 8) a.n y (omega arith) (λ h. omega arith) (omega arith) c.put_run.ensures
     c.copy_whole.ensures c.put_run-2.ensures
