@@ -1,6 +1,6 @@
 // What is printed: the totals or the fault on standard output, and how far the count is on a terminal.
 use logs::{Report, Total};
-use std::io::{IsTerminal, Write};
+use std::io::IsTerminal;
 use std::time::Clock;
 
 fn line(rt: &HostRuntime, what: &str, n: u64) {
