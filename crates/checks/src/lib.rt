@@ -121,6 +121,7 @@ pub fn calc_lrc(frame: &[u8], data_length: u8) -> ByteAnswer
 }
 
 // What a character 0-9, A-F or a-f stands for, and which kind it is.
+#[tactic(auto, using(modbus::proofs::HexLaws::kinded_figure, modbus::proofs::HexLaws::kinded_capital, modbus::proofs::HexLaws::kinded_small, modbus::proofs::HexLaws::kinded_none))]
 pub fn chr_to_hex(c: u8) -> HexAnswer
     ensures { hex_paper result ≡ told_kind (kinded c) }
 {
@@ -132,6 +133,9 @@ pub fn chr_to_hex(c: u8) -> HexAnswer
     }
 }
 
+// The switch under which small letters are no digits.
+const STRICT: u8 = 0;
+
 // What a character stands for under a switch: where it is 0, a-f are no digits.
 pub fn digit_under(c: u8, hex: u8) -> ByteAnswer
     ensures { byte_paper result ≡ told (undigit (spell hex c)) }
@@ -140,7 +144,7 @@ pub fn digit_under(c: u8, hex: u8) -> ByteAnswer
         HexAnswer::Number(v) => ByteAnswer::Value(v),
         HexAnswer::Capital(v) => ByteAnswer::Value(v),
         HexAnswer::Small(v) => {
-            if hex == 0 {
+            if hex == STRICT {
                 return ByteAnswer::Refused(ErrorKind::FrameBroken);
             }
             ByteAnswer::Value(v)

@@ -88,6 +88,9 @@ fn refused(outcome: u8) -> Driven
     }
 }
 
+// The transport's number.
+const RTU: u8 = 0;
+
 // A whole frame, which is one of RTU or none.
 fn serve(
     setup: Setup,
@@ -102,7 +105,7 @@ fn serve(
     ensures { leaving result reply.new coils.new holdings.new ≡ rtu_called (lending setup list.now
         coils.old discretes.now holdings.old inputs.now frame.now reply.old) }
 {
-    if setup.transport != 0 {
+    if setup.transport != RTU {
         return refused(10);
     }
     driver::drive(

@@ -25,9 +25,9 @@ lenient : (h v : ℕ) {m : Step ErrorKind ℕ} → ¬ (h ≡ 0) → m ≡ taken 
 lenient zero v q e = absurd (q refl)
 lenient (suc h) v q e = e
 
-pub returns-then-hex-eq0 : goal.returns-then-hex-eq0
-returns-then-hex-eq0 c =
-    sym (ap told (strict _ _ c.if-hex-eq0.true (by_kind _ c.args.c c.chr_to_hex.result _ 2 c.chr_to_hex.ensures (ap hex_paper c.in-Small.is))))
+pub returns-then-hex-eq-STRICT : goal.returns-then-hex-eq-STRICT
+returns-then-hex-eq-STRICT c =
+    sym (ap told (strict _ _ c.if-hex-eq-STRICT.true (by_kind _ c.args.c c.chr_to_hex.result _ 2 c.chr_to_hex.ensures (ap hex_paper c.in-Small.is))))
 
 pub returns-in-Number : goal.returns-in-Number
 returns-in-Number c =
@@ -37,9 +37,9 @@ pub returns-in-Capital : goal.returns-in-Capital
 returns-in-Capital c =
     sym (ap told (by_kind _ c.args.c c.chr_to_hex.result _ 1 c.chr_to_hex.ensures (ap hex_paper c.in-Capital.is)))
 
-pub returns-else-hex-eq0 : goal.returns-else-hex-eq0
-returns-else-hex-eq0 c =
-    sym (ap told (lenient _ _ c.if-hex-eq0.false (by_kind _ c.args.c c.chr_to_hex.result _ 2 c.chr_to_hex.ensures (ap hex_paper c.in-Small.is))))
+pub returns-else-hex-eq-STRICT : goal.returns-else-hex-eq-STRICT
+returns-else-hex-eq-STRICT c =
+    sym (ap told (lenient _ _ c.if-hex-eq-STRICT.false (by_kind _ c.args.c c.chr_to_hex.result _ 2 c.chr_to_hex.ensures (ap hex_paper c.in-Small.is))))
 
 pub returns-in-Refused : goal.returns-in-Refused
 returns-in-Refused c =

@@ -6,10 +6,10 @@ use Rattle.driver.specs.Driven.{leaving}
 use Rattle.collector.proofs.CollectedLaws.{rtu_other, rtu_driven}
 use Rattle.collector.proofs.serve.Goals as goal
 
-pub returns-then-setup-ne0 : goal.returns-then-setup-ne0
-returns-then-setup-ne0 c =
+pub returns-then-setup-ne-RTU : goal.returns-then-setup-ne-RTU
+returns-then-setup-ne-RTU c =
     let a = c.args in
-    ap (λ (d : Driven). leaving d a.reply.now a.coils.now a.holdings.now) c.refused.ensures ∙ sym (rtu_other _ c.if-setup-ne0.true)
+    ap (λ (d : Driven). leaving d a.reply.now a.coils.now a.holdings.now) c.refused.ensures ∙ sym (rtu_other _ c.if-setup-ne-RTU.true)
 
 pub returns : goal.returns
-returns c = c.drive.ensures ∙ sym (rtu_driven _ c.if-setup-ne0.false)
+returns c = c.drive.ensures ∙ sym (rtu_driven _ c.if-setup-ne-RTU.false)
