@@ -1,11 +1,11 @@
 -- A built frame is the published encoding of its request, pad bits zero, and a server that it addresses serves it as exactly this request.
 -- Assumes nothing.
-use mathlib.Core.Path.{◌≡◌, refl, sym, ap, ◌∙◌, subst}
-use mathlib.Core.List.{List, [], ◌∷◌, ◌++◌}
-use Prim.Native.Nat.{ℕ, ◌+◌, ◌*◌, ◌/◌, ◌%◌, ◌≤◌, ◌<◌}
+use mathlib.Core.Path.{◌≡◌, refl, sym, ◌∙◌, subst}
+use mathlib.Core.List.{List, [], ◌∷◌}
+use Prim.Native.Nat.{ℕ, ◌≤◌, ◌<◌}
 use native.Mathlib.Omega.{arith}
 use lib.ListN.{length}
-use Rattle.modbus.specs.Step.{Step, stop, go}
+use Rattle.modbus.specs.Step.{Step, go}
 use Rattle.modbus.specs.Bytes.{Bytes}
 use Rattle.modbus.specs.Table.{Kind, bit, word, Tab, coils, discretes, holdings, inputs, kind_of}
 use Rattle.modbus.specs.Request.{reads, many, code, Ask, read, write, writes, masks, swaps, most_read, most_written, Permitted, octets, Pads, pdu}
@@ -20,7 +20,7 @@ use Rattle.modbus.proofs.CargoLaws.{length_cargo, bytes_cargo}
 use Rattle.modbus.proofs.FrameLaws.{framed_spelled}
 use Rattle.demands.specs.Demand.{Request, Addressed, Serves}
 use Rattle.client.specs.declared.ModbusRequest.{ModbusRequest}
-use Rattle.client.specs.Asking.{Declined, every_cell, padding, tag_to, frame_to, generated}
+use Rattle.client.specs.Asking.{Declined, every_cell, padding, frame_to, generated}
 use Rattle.client.proofs.BuildLaws.{pads}
 use Rattle.client.proofs.CloseLaws.{tag_length_law}
 use Rattle.asking.specs.Belonging.{Says, request_to}

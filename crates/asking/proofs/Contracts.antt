@@ -14,7 +14,7 @@ use Rattle.modbus.specs.Step.{Step, stop, go}
 use Rattle.modbus.specs.Bytes.{Bytes}
 use Rattle.modbus.specs.Table.{Range}
 use Rattle.modbus.specs.Request.{Ask, masks, swaps, reading, seen, found}
-use Rattle.modbus.specs.Decode.{Silent, read_ignored_quiet, foreign, frame_broken_quiet, frame_check_quiet, wrong_length_quiet, bad_function_quiet, no_room_quiet, bad_setup_quiet}
+use Rattle.modbus.specs.Decode.{read_ignored_quiet, foreign, frame_broken_quiet, frame_check_quiet, wrong_length_quiet, bad_function_quiet, no_room_quiet, bad_setup_quiet}
 use Rattle.modbus.specs.Drive.{spelled}
 use Rattle.modbus.specs.declared.Answer.{Answer}
 use Rattle.tables.specs.Lent.{tables_of}
@@ -40,7 +40,7 @@ use Rattle.client.proofs.parse_response.Kinds as parse-kinds
 use Rattle.client.proofs.parse_response.Reads as parse-reads
 use Rattle.asking.specs.Belonging.{Says}
 use Rattle.asking.proofs.Built.{Built, built}
-use Rattle.asking.proofs.OnBytes.{came, values_back, exception_back, found_range, value_cell}
+use Rattle.asking.proofs.OnBytes.{values_back, exception_back, found_range, value_cell}
 
 -- ---- building
 

@@ -9,7 +9,7 @@ use Prim.Native.Nat.{ℕ, ◌+◌, ◌*◌, ◌≤◌, ◌<◌}
 use native.Mathlib.Omega.{arith}
 use lib.ListN.{length, take, get_or, get_or-append}
 use lib.Seq.{sets, sets-eq}
-use Rattle.modbus.specs.Step.{Step, stop, go}
+use Rattle.modbus.specs.Step.{Step, go}
 use Rattle.modbus.specs.Bytes.{Bytes}
 use Rattle.modbus.specs.Table.{coils, discretes, holdings, inputs, Range, part}
 use Rattle.modbus.specs.Request.{Ask, read, write, writes, masks, swaps, reading, Seen, seen, found}

@@ -3,28 +3,27 @@
 -- Assumes nothing.
 use mathlib.Core.Logic.{◌↔◌}
 use mathlib.Core.Path.{◌≡◌, refl, sym, ap, ap₂, ◌∙◌, subst}
-use mathlib.Core.List.{List, [], ◌∷◌, ◌++◌}
-use Prim.Native.Nat.{ℕ, suc, ◌+◌, ◌≤◌, ◌<◌}
+use mathlib.Core.List.{List, [], ◌∷◌}
+use Prim.Native.Nat.{ℕ, ◌+◌, ◌≤◌, ◌<◌}
 use native.Mathlib.Omega.{arith}
 use lib.ListN.{length, get_or, take, drop, length-drop}
 use Rattle.modbus.specs.Step.{Step, stop, go}
-use Rattle.modbus.specs.Bytes.{All, Bytes, two}
-use Rattle.modbus.specs.Table.{Kind, bit, word, Tab, kind_of, Fits}
-use Rattle.modbus.specs.Request.{reads, both, code, Ask, read, write, writes, masks, swaps, fn_of, Permitted, Encodes, cargo, octets, Fills, answer, exception}
+use Rattle.modbus.specs.Bytes.{Bytes}
+use Rattle.modbus.specs.Table.{Kind, word, kind_of}
+use Rattle.modbus.specs.Request.{reads, both, code, Ask, read, write, writes, masks, swaps, fn_of, Encodes, cargo, octets, answer, exception}
 use Rattle.modbus.specs.Storage.{values}
 use Rattle.modbus.specs.Paper.{proto_of}
 use Rattle.modbus.specs.Frame.{Framed}
-use Rattle.modbus.specs.Decode.{Message, unit_of, Silent, unwrap}
-use Rattle.modbus.proofs.StepLaws.{pass, fail, follow, bound, needed, picked, pick_yes, pick_no}
+use Rattle.modbus.specs.Decode.{Message, Silent}
+use Rattle.modbus.proofs.StepLaws.{pass, follow, bound, needed, picked, pick_yes, pick_no}
 use Rattle.modbus.proofs.BytesLaws.{all_drop}
 use Rattle.modbus.proofs.CargoLaws.{values_of, values_back, length_cargo}
-use Rattle.modbus.proofs.FindLaws.{code_low}
 use Rattle.modbus.proofs.FrameLaws.{sound, complete}
 use Rattle.demands.specs.Demand.{Request}
-use Rattle.client.specs.Asking.{Declined, not_my_reply, or_silent, sent_as, Reply, shows, excepted, shown_count, Excepts, excepts?, Brings, Answers, answers?, held_in, answered, heard, mine?, replied, understood}
+use Rattle.client.specs.Asking.{or_silent, Reply, shows, excepted, shown_count, Excepts, Brings, Answers, held_in, heard, understood}
 use Rattle.client.proofs.HearLaws.{silent_go}
 use Rattle.asking.specs.Belonging.{Says, Carries, Shows, Answering, Excepting}
-use Rattle.asking.proofs.Sent.{requested, message_of, sent_says, says_sent, says_number}
+use Rattle.asking.proofs.Sent.{requested, message_of, sent_says, says_sent}
 
 silent_went : {A : Type 0} (s : Step Silent A) {a : A} → or_silent s ≡ go a → s ≡ go a
 unfolding or_silent

@@ -2,19 +2,18 @@
 -- Assumes nothing.
 use mathlib.Core.Path.{◌≡◌, refl, sym, ap, ap₂, ◌∙◌, subst}
 use mathlib.Core.List.{List, [], ◌∷◌, ◌++◌}
-use Prim.Native.Nat.{ℕ, ◌+◌, ◌-◌, ◌*◌, ◌≤◌, ◌<◌}
+use Prim.Native.Nat.{ℕ, ◌-◌, ◌*◌, ◌≤◌}
 use native.Mathlib.Omega.{arith}
 use lib.ListN.{length, drop, replicate, length-replicate}
 use Rattle.modbus.specs.Step.{go}
 use Rattle.modbus.specs.Bytes.{Bytes}
 use Rattle.modbus.specs.Table.{Kind, bit, word, Tab, holdings, kind_of, Fits, Tables, Range, part}
-use Rattle.modbus.specs.Request.{Fn, code, reads, both, Ask, read, write, writes, masks, swaps, fn_of, reading, writing, Permitted, cargo, octets, Fills, Encodes, shown, apply, seen, found, answer, exception}
-use Rattle.modbus.specs.Paper.{proto_of}
-use Rattle.modbus.specs.Frame.{Framed, wrap}
+use Rattle.modbus.specs.Request.{code, reads, both, Ask, read, write, writes, masks, swaps, fn_of, reading, writing, Permitted, cargo, octets, Fills, Encodes, shown, apply, seen, found, answer, exception}
+use Rattle.modbus.specs.Frame.{wrap}
 use Rattle.modbus.specs.Setup.{Setup, proto, Valid, Roomy}
 use Rattle.modbus.specs.Unit.{Broadcast}
-use Rattle.modbus.specs.Decode.{Message, unit_of, number_of, unwrap}
-use Rattle.modbus.specs.Drive.{AllWithin, Inside, spelled, drive}
+use Rattle.modbus.specs.Decode.{Message, unit_of, number_of}
+use Rattle.modbus.specs.Drive.{AllWithin, spelled, drive}
 use Rattle.modbus.proofs.StorageLaws.{length_part, part_all}
 use Rattle.modbus.proofs.AnswerLaws.{Proper, assign_proper, answer_fits, answer_bytes}
 use Rattle.modbus.proofs.DriveLaws.{go_after}

@@ -1,24 +1,23 @@
 -- The request that a frame says is the one whose encoding it is, and no other.
 -- Assumes nothing.
-use mathlib.Core.Logic.{◌↔◌}
-use mathlib.Core.Path.{◌≡◌, refl, sym, ap, ◌∙◌, subst}
-use mathlib.Core.List.{List, [], ◌∷◌}
+use mathlib.Core.Path.{◌≡◌, sym, ap, ◌∙◌, subst}
+use mathlib.Core.List.{List, ◌∷◌}
 use Prim.Native.Nat.{ℕ, ◌≤◌}
 use native.Mathlib.Omega.{arith}
-use lib.ListN.{length, get_or, drop}
-use Rattle.modbus.specs.Step.{Step, stop, go, ◌>>=◌}
+use lib.ListN.{drop}
+use Rattle.modbus.specs.Step.{Step, stop, go}
 use Rattle.modbus.specs.Bytes.{Bytes}
-use Rattle.modbus.specs.Request.{Fn, code, Ask, fn_of, Permitted, pdu}
+use Rattle.modbus.specs.Request.{code, Ask, fn_of}
 use Rattle.modbus.specs.Paper.{proto_of}
 use Rattle.modbus.specs.Frame.{Framed}
-use Rattle.modbus.specs.Decode.{Message, unit_of, number_of, unwrap, asked}
+use Rattle.modbus.specs.Decode.{Message, unit_of, number_of, asked}
 use Rattle.modbus.specs.Drive.{Inside}
 use Rattle.modbus.proofs.StepLaws.{follow, bound}
 use Rattle.modbus.proofs.WeighLaws.{weigh_goes, went}
 use Rattle.modbus.proofs.RequestLaws.{asked_says, says_heard}
 use Rattle.modbus.proofs.FrameLaws.{sound, complete}
 use Rattle.demands.specs.Demand.{Request}
-use Rattle.client.specs.Asking.{Declined, or_bad_request, every_cell, function_of, said_by, sent_as}
+use Rattle.client.specs.Asking.{or_bad_request, every_cell, sent_as}
 use Rattle.client.proofs.BuildLaws.{or_go}
 use Rattle.asking.specs.Belonging.{Says}
 

@@ -1,17 +1,16 @@
 -- What the asking side promises, in words that know nothing of how a reply is read: the request that a frame is the encoding of, and the
 -- frames that answer it.
 -- Assumes nothing.
-use Rattle.std.specs.Prelude.{◌≡◌, List, [], ◌∷◌, ℕ, ◌≤◌, ◌<◌, length, get_or, take}
+use Rattle.std.specs.Prelude.{◌≡◌, List, [], ◌∷◌, ℕ, ◌≤◌, length}
 use Rattle.modbus.specs.Bytes.{All}
 use Rattle.modbus.specs.Table.{Kind, word, kind_of, Fits}
 use Rattle.modbus.specs.Request.{reads, both, code, Ask, read, write, writes, masks, swaps, fn_of, Permitted, cargo, octets, Fills, Encodes, answer, exception}
 use Rattle.modbus.specs.Paper.{proto_of}
 use Rattle.modbus.specs.Frame.{Framed}
-use Rattle.modbus.specs.Decode.{Message}
 use Rattle.modbus.specs.Drive.{Inside}
 use Rattle.demands.specs.Demand.{Request}
 use Rattle.client.specs.declared.ModbusRequest.{ModbusRequest}
-use Rattle.client.specs.Asking.{every_cell, tag_to, shown_count}
+use Rattle.client.specs.Asking.{every_cell, tag_to}
 
 -- the frame is, within document 01's bounds, the published encoding of a request that may be asked, on ASCII in capitals
 pub record Says (n : ℕ) (f : List ℕ) (q : Request) : Type 0 where

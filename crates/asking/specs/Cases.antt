@@ -1,6 +1,6 @@
 -- The asking side's cases as data, with both sides of each of its numbers: frames to be built, and replies to be read. Unit 1 is asked.
 -- Assumes nothing.
-use Rattle.std.specs.Prelude.{List, [], ◌∷◌, ◌++◌, ℕ, length, replicate}
+use Rattle.std.specs.Prelude.{List, [], ◌∷◌, ℕ, length, replicate}
 use Rattle.modbus.specs.Step.{Step, stop, go}
 use Rattle.modbus.specs.Request.{masks, swaps}
 use Rattle.client.specs.declared.ModbusRequest.{ModbusRequest}

@@ -4,8 +4,8 @@ use mathlib.Core.Path.{◌≡◌, refl, sym, ap, ◌∙◌}
 use mathlib.Core.List.{List, [], ◌∷◌, ◌++◌}
 use Prim.Native.Nat.{ℕ, zero, suc, ◌+◌, ◌-◌, ◌≤◌, ◌<◌, min}
 use native.Mathlib.Omega.{arith}
-use lib.ListN.{length, take, drop, get_or, set, drop_of_length-le}
-use lib.Seq.{sets, take_all, drop-cons, set-get_or, set_comm, length-take-le, take-append-add}
+use lib.ListN.{length, take, drop, set, drop_of_length-le}
+use lib.Seq.{sets, take_all, drop-cons, set-get_or, set_comm, take-append-add}
 use Rattle.modbus.specs.Step.{◌≤?◌}
 
 -- what is left of a list beyond its length is nothing

@@ -3,7 +3,6 @@
 -- Assumes nothing.
 use mathlib.Core.Path.{◌≡◌, refl}
 use mathlib.Core.List.{map, ◌++◌}
-use Rattle.modbus.specs.Table.{tab?}
 use Rattle.modbus.specs.Storage.{with_bit, put_coil, put_register, store}
 use Rattle.modbus.proofs.Bounds.{computing}
 use Rattle.driver.specs.Driven.{called}

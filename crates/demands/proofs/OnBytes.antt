@@ -4,7 +4,7 @@
 use mathlib.Core.Logic.{◌↔◌, by_cases}
 use mathlib.Core.Path.{◌≡◌, refl, ap, sym, ◌∙◌, subst}
 use mathlib.Core.List.{List, ◌++◌}
-use Prim.Native.Nat.{ℕ, ◌*◌, ◌≤◌, ◌<◌}
+use Prim.Native.Nat.{ℕ, ◌≤◌, ◌<◌}
 use native.Mathlib.Omega.{arith}
 use native.Mathlib.Nat.{zero-add}
 use lib.ListN.{length, take, drop, get_or}
@@ -29,7 +29,7 @@ use Rattle.demands.specs.OnBytes.{lent_after, showed, refusing, Unwritten, Kept}
 use Rattle.demands.specs.Promised.{Promised}
 use Rattle.demands.proofs.CellLaws.{run_of, apply_stored, same_cells}
 use Rattle.demands.proofs.Judge.{requested, judge_serves, refusal_returns}
-use Rattle.demands.proofs.Exactly.{refusal_high, exactly}
+use Rattle.demands.proofs.Exactly.{exactly}
 use Rattle.demands.proofs.Replies.{reply_room}
 use Rattle.demands.proofs.StoredLaws.{Part, ask_stored, stored_length, stored_free, spare_free}
 use Rattle.demands.proofs.Third.{demand_3}

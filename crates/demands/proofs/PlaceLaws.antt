@@ -6,11 +6,10 @@ use mathlib.Core.List.{List}
 use Prim.Native.Nat.{ℕ, ◌≤◌}
 use native.Mathlib.Omega.{arith}
 use lib.ListN.{length}
-use Rattle.modbus.specs.Bytes.{Bytes}
 use Rattle.modbus.specs.Request.{Fn, code, Ask, fn_of}
 use Rattle.modbus.specs.Frame.{least}
 use Rattle.modbus.specs.Setup.{Setup, proto}
-use Rattle.modbus.specs.Decode.{Message, unit_of, number_of, Lengthy, Valued, asked}
+use Rattle.modbus.specs.Decode.{Message, unit_of, Lengthy, Valued, asked}
 use Rattle.modbus.specs.Drive.{Inside}
 use Rattle.modbus.specs.declared.ModbusProto.{ModbusProto}
 use Rattle.modbus.specs.declared.ModbusProto.TheVariants.{Rtu, Ascii, TcpUdp}

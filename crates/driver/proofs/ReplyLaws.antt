@@ -11,7 +11,7 @@ use Rattle.modbus.specs.Table.{word, part}
 use Rattle.modbus.specs.Request.{octets, shown}
 use Rattle.modbus.specs.Paper.{told_with}
 use Rattle.modbus.specs.Bytes.{word_at}
-use Rattle.modbus.specs.Storage.{Storage, registers, register_at, put_register, Sound, store, size, values}
+use Rattle.modbus.specs.Storage.{Storage, registers, register_at, put_register, Sound, store, values}
 use Rattle.modbus.proofs.StepLaws.{pass}
 use Rattle.modbus.proofs.StorageLaws.{size_sound}
 use Rattle.modbus.proofs.BytesLaws.{sets_append}

@@ -4,7 +4,7 @@ use mathlib.Core.Bool.{Bool, true, false}
 use mathlib.Core.Logic.{◌⊎◌, inl, inr, ⊎_elim, by_cases}
 use mathlib.Core.Path.{◌≡◌, refl, sym, ap, ap₂, subst, ◌∙◌}
 use mathlib.Core.List.{List, [], ◌∷◌}
-use Prim.Native.Nat.{ℕ, ◌+◌, ◌*◌, ◌≤◌, ◌<◌}
+use Prim.Native.Nat.{ℕ, ◌*◌, ◌≤◌, ◌<◌}
 use native.Mathlib.Omega.{arith}
 use lib.ListN.{length, take, drop, get_or, length-take, length-drop}
 use lib.Seq.{sets, take-length}
@@ -13,7 +13,7 @@ use Rattle.modbus.specs.Table.{Kind, bit, word, Tab, coils, discretes, holdings,
 use Rattle.modbus.specs.Request.{reads, mask, code, tab_of, Ask, read, write, writes, masks, swaps, octets, shown, writing, answer, seen, found, apply}
 use Rattle.modbus.specs.Setup.{Setup, proto}
 use Rattle.modbus.specs.Unit.{listed?, Broadcast, broadcast?, Ours}
-use Rattle.modbus.specs.Decode.{Message, foreign, outcome_of, asked}
+use Rattle.modbus.specs.Decode.{Message, asked}
 use Rattle.modbus.specs.Drive.{Fault, quiet, coded, Result, weigh, from_unit, settle}
 use Rattle.modbus.proofs.StepLaws.{pass, fail, follow, halt, pick_yes, pick_no, picked}
 use Rattle.modbus.proofs.WeighLaws.{Alike, weigh_alike, by_alike}
@@ -34,7 +34,7 @@ use Rattle.requests.specs.declared.Verdict.TheVariants.{Read, Written, Masked, E
 use Rattle.requests.proofs.JudgedLaws.{on, off, tab_of_law}
 use Rattle.requests.proofs.FineLaws.{FineRead, FineWrite, FineMask, FineBoth, Fine, fine}
 use Rattle.driver.specs.Driven.{Call, setup_of, bytes_after, result_of, Leaves, leaving, settled}
-use Rattle.driver.specs.Serving.{Sized, ReadReady, Ready, read_body, data_of, masked_by, swapped_by, echoed, done_by, Telling, tells, telling, Turn, turn, serving}
+use Rattle.driver.specs.Serving.{Sized, Ready, data_of, masked_by, swapped_by, echoed, done_by, Telling, tells, telling, Turn, turn, serving}
 use Rattle.driver.proofs.ReadLaws.{octets_most}
 use Rattle.driver.proofs.StoreLaws.{stored_target, stored_other, found_after, echoes, mask_echoes}
 use Rattle.driver.proofs.CloseLaws.{closed}

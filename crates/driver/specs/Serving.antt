@@ -5,8 +5,8 @@ use Rattle.std.proofs.lemmas.List.Edits.{sets}
 use Rattle.modbus.specs.Table.{Kind, bit, word, Tab, coils, discretes, holdings, inputs, kind_of, target, Range, part}
 use Rattle.modbus.specs.Request.{tab_of, octets, masked, shown, exception, most_read}
 use Rattle.modbus.specs.Storage.{Sound, packed, registers, register_at, put_register, storage, store, values}
-use Rattle.modbus.specs.Setup.{Setup, room_for}
-use Rattle.modbus.specs.Frame.{wrap, tag_of, start_of, around}
+use Rattle.modbus.specs.Setup.{Setup}
+use Rattle.modbus.specs.Frame.{wrap, start_of, around}
 use Rattle.modbus.specs.Drive.{from_unit}
 use Rattle.modbus.specs.declared.ModbusProto.{ModbusProto}
 use Rattle.tables.specs.Lent.{Lent, table_of, tables_of, cells_of}
