@@ -26,7 +26,7 @@ use Rattle.process.specs.Process.{response_of, data_bytes}
 use Rattle.external.specs.External.{described, read_described, without}
 use Rattle.frame.specs.Changes.{kind_number}
 use Rattle.external.specs.External.{room_sized, roomed, room_told, wanted}
-use Rattle.external.specs.Answers.{room_paper, no_room_quiet}
+use Rattle.external.specs.Answers.{room_paper, no_room}
 use Rattle.frame.specs.declared.ModbusFrame.{ModbusFrame}
 use Rattle.external.specs.declared.reads.Room.{Room}
 use Rattle.external.specs.declared.ReadLeft.{ReadLeft}
@@ -49,7 +49,7 @@ module _ (s : ModbusFrame) (out : List ℕ) (bytes : ℕ) where
   abbrev room : After × ℕ
   room = room_sized s (response_of s out) lengthened
 
-  pub room_none : length out < s.response_len + bytes → room ≡ room_paper (no_room_quiet OOB s) out
+  pub room_none : length out < s.response_len + bytes → room ≡ room_paper (no_room OOB s) out
   room_none h = ap (room_sized s (response_of s out)) (by (s.response_len ≤? length out))
     where
       by : Dec (s.response_len ≤ length out) → lengthened ≡ stop OOB
@@ -58,10 +58,10 @@ module _ (s : ModbusFrame) (out : List ℕ) (bytes : ℕ) where
 
   -- r and l are what the bounded response answered and then held
   module _ (r : SizeAnswer) (l : List ℕ) (p : (size_paper r, l) ≡ told_with out lengthened) where
-    pub room_refused : (k : ErrorKind) → r ≡ size.Refused k → room ≡ room_paper (no_room_quiet k s) l
+    pub room_refused : (k : ErrorKind) → r ≡ size.Refused k → room ≡ room_paper (no_room k s) l
     room_refused k q =
         let w = refusal_with out l lengthened k (rw q at p) in
-        ap (room_sized s (response_of s out)) w.0 ∙ ap (room_paper (no_room_quiet k s)) (sym w.1)
+        ap (room_sized s (response_of s out)) w.0 ∙ ap (room_paper (no_room k s)) (sym w.1)
 
     pub room_made : (n : ℕ) → r ≡ size.Value n → room ≡ (well (grown n s) l, s.response_len)
     room_made n q = ap (room_sized s (response_of s out)) (value_with out l lengthened n (rw q at p))
@@ -82,7 +82,7 @@ module _ (bytes : ℕ) (s : ModbusFrame) (buf out : List ℕ) (g : Grown) (l : L
   headed_as a q = sym e ∙ ap (λ (x : DoneAnswer). ((done_paper x).0, response g.len l)) q
 
   pub roomed_not : (k : ErrorKind) → g.answer ≡ done.Refused k
-      → roomed bytes s headed ≡ room_paper (no_room_quiet k (grown g.len s)) l
+      → roomed bytes s headed ≡ room_paper (no_room k (grown g.len s)) l
   roomed_not k q = ap (roomed bytes s) (stopped headed k g.len l (headed_as (done.Refused k) q))
 
   pub roomed_on : g.answer ≡ done.Done

@@ -36,5 +36,5 @@ read_done_left (many k) s = refused_of WriteCallOnReadFrame s
 abbrev pub room_paper : Room → List ℕ → After × ℕ
 room_paper r l = (after (done_paper r.answer).0 r.frame l, r.at)
 
-abbrev pub no_room_quiet : ErrorKind → ModbusFrame → Room
-no_room_quiet k s = record { answer = Refused k; at = 0; frame = s }
+abbrev pub no_room : ErrorKind → ModbusFrame → Room
+no_room k s = record { answer = Refused k; at = 0; frame = s }

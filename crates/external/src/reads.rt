@@ -7,7 +7,7 @@ ghost use Rattle.frame.specs.Changes.{kind_number};
 ghost use Rattle.process.specs.Process.{response_of};
 ghost use Rattle.process.specs.Cells.{kind_in};
 ghost use Rattle.external.specs.External.{read_paper, read_described, room_sized, roomed, wanted};
-ghost use Rattle.external.specs.Answers.{read_refused, read_done_left, no_room_quiet, room_paper};
+ghost use Rattle.external.specs.Answers.{read_refused, read_done_left, no_room, room_paper};
 
 use crate::{Read, ReadAnswer, ReadBits, ReadLeft, ReadWords};
 use frame::{Left, ModbusFrame, ModbusFunction};
@@ -88,7 +88,7 @@ fn make_room(frame: ModbusFrame, buf: &[u8], bytes: u16, response: &mut [u8]) ->
 }
 
 fn no_room(frame: ModbusFrame, kind: ErrorKind) -> Room
-    ensures { result ≡ no_room_quiet kind frame }
+    ensures { result ≡ no_room kind frame }
 {
     Room {
         answer: DoneAnswer::Refused(kind),
