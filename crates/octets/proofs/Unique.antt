@@ -8,7 +8,7 @@ use Rattle.modbus.proofs.Unique.{Unique}
 use Rattle.octets.proofs.least.Kinds as least-kinds
 use Rattle.octets.proofs.least.Reads as least-reads
 use Rattle.octets.proofs.byte.Kinds as byte-kinds
-use Rattle.octets.proofs.byte.Reads as byte-Reads
+use Rattle.octets.proofs.byte.Reads as byte-reads
 use Rattle.octets.proofs.word.Kinds as word-kinds
 use Rattle.octets.proofs.word.Reads as word-reads
 use Rattle.octets.proofs.contains.Kinds as contains-kinds
@@ -19,7 +19,7 @@ use Rattle.octets.proofs.put_byte.Reads as put-byte-reads
 pub least : Unique 0 least-kinds.ps least-kinds.r least-reads.Post
 least κs a x y u v p q = (p ∙ sym q, refl)
 
-pub byte : Unique 1 byte-kinds.ps byte-kinds.r byte-Reads.Post
+pub byte : Unique 1 byte-kinds.ps byte-kinds.r byte-reads.Post
 byte κs a x y u v p q = (p ∙ sym q, refl)
 
 pub word : Unique 1 word-kinds.ps word-kinds.r word-reads.Post

@@ -9,10 +9,10 @@ mod theirs;
 pub use random::{edges, random};
 pub use record::{Answer, Call};
 
-use crate::drive::model::{ANSWERED, EXCEPTION, FRAME_BROKEN, FRAME_CHECK};
+use crate::drive::model::{ANSWERED, EXCEPTION, FRAME_BROKEN};
 use crate::drive::wire::word;
 use crate::record::{ASCII, RTU, STRICT, TCP};
-use record::{Ask, BAD_REQUEST, NOT_MY_REPLY, OOB};
+use record::{Ask, BAD_REQUEST};
 use theirs::Said;
 
 const READ_0: &str = "a read of 0 cells is built";
@@ -35,35 +35,27 @@ const LONG_TCP: &str = "a TCP reply above 260 bytes is taken";
 const LONG_RTU: &str = "an RTU reply of 257 bytes is taken";
 const LINE: &str = "an ASCII line without its colon, or that does not end at its CR LF, is taken";
 const NO_REPLY: &str = "no bytes of ASCII: a panic";
-const OTHER: &str = "a reply of another unit or transaction is FrameBroken";
-const TWO_BYTES: &str = "a reply with two bytes before its check is FrameBroken";
-const MANY_BYTES: &str = "a reply with more than twice its byte count in data is FrameBroken";
-const CUT_LINE: &str = "an ASCII line that ends within a byte, or has too many, is OOB";
 
 /// Every way in which the crate differs, each to come up in a stream.
 #[rustfmt::skip]
-pub const WAYS: [&str; 24] = [
+pub const WAYS: [&str; 20] = [
     READ_0, READ_MANY, WRITE_0, WRITE_MANY, BEYOND, COIL_VALUE, MANY_COILS, BYTE_COUNT, BYTES, NO_DATA, ECHO,
     OTHER_FUNCTION, LONG_EXCEPTION, CODE_0, UNKNOWN_CODE, LENGTH_FIELD, LONG_TCP, LONG_RTU, LINE, NO_REPLY,
-    OTHER, TWO_BYTES, MANY_BYTES, CUT_LINE,
 ];
 
 /// Document 02's answer. The crate's must be the same, or differ in one of WAYS: it never refuses what is built or shown
-/// here, shows nothing else as these values, and refuses by the same kind.
+/// here, and shows nothing else as these values.
 pub fn answer(call: &Call) -> Result<Answer, String> {
     let mut answer = model::answer(call);
     let said = theirs::answer(call);
     answer.difference = match (&call.reply, answer.kind, &said) {
         (None, 0, Said::Built(frame)) if *frame == answer.frame => None,
-        (_, BAD_REQUEST, Said::Refused(OOB)) => None,
+        (None, BAD_REQUEST, Said::Refused) => None,
         (None, BAD_REQUEST, _) => Some(unbuilt(call, &said).ok_or("the crate builds it")?),
         (Some(_), ANSWERED, Said::Values(values)) if *values == answer.values => None,
         (Some(_), EXCEPTION, Said::Exception(code)) if *code == answer.code => None,
         (Some(_), EXCEPTION, Said::Exception(_)) => Some(UNKNOWN_CODE),
-        (Some(_), kind, Said::Refused(theirs)) if kind == *theirs => None,
-        (Some(reply), kind, Said::Refused(theirs)) if kind > EXCEPTION => {
-            Some(misnamed(call, reply, kind, *theirs).ok_or("the crate refuses it otherwise")?)
-        }
+        (Some(_), kind, Said::Refused) if kind > EXCEPTION => None,
         (Some(reply), kind, _) if kind > EXCEPTION => {
             Some(unread(call, reply, kind, &said).ok_or("the crate takes it")?)
         }
@@ -87,40 +79,17 @@ fn unbuilt(call: &Call, said: &Said) -> Option<&'static str> {
     }
 }
 
-/// Why the crate refuses this reply by another kind than document 02.
-fn misnamed(call: &Call, reply: &[u8], kind: u8, theirs: u8) -> Option<&'static str> {
-    match (kind, theirs) {
-        (FRAME_BROKEN, OOB) => (call.to.proto == ASCII).then_some(CUT_LINE),
-        (FRAME_BROKEN, FRAME_CHECK) => misshapen(call, reply),
-        (_, FRAME_BROKEN) if reply.len() == [4, 9, 8][usize::from(call.to.proto)] => Some(TWO_BYTES),
-        (NOT_MY_REPLY, FRAME_BROKEN) => {
-            let body = crate::drive::model::unwrap(call.to.proto, STRICT, reply).ok()?;
-            match call.to.proto {
-                _ if body[0] != call.to.unit => Some(OTHER),
-                TCP if word(reply, 0) != call.to.tr_id.into() => Some(OTHER),
-                _ => (call.ask.func <= 4 && 2 * usize::from(body[2]) < body.len() - 3).then_some(MANY_BYTES),
-            }
-        }
-        _ => None,
-    }
-}
-
-/// What document 02 has against the shape of a reply that the crate takes for a frame.
-fn misshapen(call: &Call, reply: &[u8]) -> Option<&'static str> {
-    match call.to.proto {
-        RTU => (reply.len() == 257).then_some(LONG_RTU),
-        ASCII if reply.is_empty() => Some(NO_REPLY),
-        ASCII => (reply[0] != b':' || !crate::drive::answer::ends_at_cr_lf(reply)).then_some(LINE),
-        TCP if word(reply, 4) != reply.len() - 6 => Some(LENGTH_FIELD),
-        _ => (reply.len() > 260).then_some(LONG_TCP),
-    }
-}
-
 /// What document 02 has against this reply.
 fn unread(call: &Call, reply: &[u8], kind: u8, said: &Said) -> Option<&'static str> {
     let func = call.ask.func;
     if kind == FRAME_BROKEN {
-        return misshapen(call, reply);
+        return match call.to.proto {
+            RTU => (reply.len() == 257).then_some(LONG_RTU),
+            ASCII if reply.is_empty() => Some(NO_REPLY),
+            ASCII => (reply[0] != b':' || !crate::drive::answer::ends_at_cr_lf(reply)).then_some(LINE),
+            TCP if word(reply, 4) != reply.len() - 6 => Some(LENGTH_FIELD),
+            _ => (reply.len() > 260).then_some(LONG_TCP),
+        };
     }
     let body = crate::drive::model::unwrap(call.to.proto, STRICT, reply).ok()?;
     match said {

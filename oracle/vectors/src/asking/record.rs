@@ -18,7 +18,6 @@ use std::fmt;
 
 pub const BAD_REQUEST: u8 = 11;
 pub const NOT_MY_REPLY: u8 = 12;
-pub const OOB: u8 = 21;
 
 #[derive(Clone, Copy)]
 pub struct To {

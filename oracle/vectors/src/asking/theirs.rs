@@ -1,7 +1,6 @@
 //! What the crate's client says of a call.
 use super::record::*;
 use crate::answer::in_the_crate;
-use crate::drive::model::{FRAME_BROKEN, FRAME_CHECK};
 use crate::record::{ASCII, RTU};
 use rmodbus::client::ModbusRequest;
 use rmodbus::{generate_ascii_frame, parse_ascii_frame, ErrorKind, ModbusProto};
@@ -12,8 +11,7 @@ pub enum Said {
     Values(Vec<u16>),
     /// With the code that the crate's name for it stands for in the Modbus document, 0 where it has none.
     Exception(u8),
-    /// With the number that document 01 has for the crate's kind.
-    Refused(u8),
+    Refused,
     Panicked,
 }
 
@@ -23,7 +21,7 @@ impl fmt::Display for Said {
             Said::Built(frame) => write!(f, "built, {} bytes", frame.len()),
             Said::Values(values) => write!(f, "{} values", values.len()),
             Said::Exception(code) => write!(f, "exception {code}"),
-            Said::Refused(kind) => write!(f, "refused, {kind}"),
+            Said::Refused => write!(f, "refused"),
             Said::Panicked => write!(f, "panic"),
         }
     }
@@ -64,10 +62,7 @@ fn told(kind: ErrorKind) -> Said {
         ErrorKind::GatewayPathUnavailable => Said::Exception(10),
         ErrorKind::GatewayTargetFailed => Said::Exception(11),
         ErrorKind::UnknownError => Said::Exception(0),
-        ErrorKind::FrameBroken => Said::Refused(FRAME_BROKEN),
-        ErrorKind::FrameCRCError => Said::Refused(FRAME_CHECK),
-        ErrorKind::OOB => Said::Refused(OOB),
-        _ => Said::Refused(0), // no number of document 01: a difference that is on no list
+        _ => Said::Refused,
     }
 }
 
