@@ -134,6 +134,16 @@ make_part() {
     else
         (cd "$made" && for_target "$target" "${c[@]}" -Wall -Wextra -fomit-frame-pointer \
             -fno-asynchronous-unwind-tables -fstack-usage -Xclang -mlink-builtin-bitcode -Xclang module.bc \
-            $(calls_of "$part" <calls | sed 's/^/-DWITH_/') -c boundary.c -o "$part.o")
+            $(calls_of "$part" <calls | sed 's/^/-DWITH_/') -S boundary.c -o "$part.s" && taking_few "$target" "$part.s" &&
+            for_target "$target" -Wno-unused-command-line-argument -c "$part.s" -o "$part.o")
     fi
+}
+
+# taking_few TARGET ASSEMBLY: on a Cortex-M it takes, of C's memory functions under ARM's names, only those that the header
+# names: where what is given lies by eight bytes the one for words serves, and where it lies by words the plain one; where a few
+# bytes are cleared that lie anyhow, as on a Cortex-M0, clear_bytes of boundary.c.
+taking_few() {
+    case $1 in
+    cortex-*) sed -i -E 's/\b__aeabi_memclr8\b/__aeabi_memclr4/; s/\b__aeabi_mem(cpy|move)[48]\b/__aeabi_mem\1/; s/\b__aeabi_memclr\b/clear_bytes/' "$2" ;;
+    esac
 }
