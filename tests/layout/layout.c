@@ -54,6 +54,7 @@ static void slices(void) {
     is("a number between slices", t.count, 0x9C63);
     for (size_t i = 0; i < 5; i++) is("a value of a slice", layout_value(values, 5, i), values[i]);
     is("a value after the end", layout_value(values, 4, 4), 0);
+    is("one of a slice that starts nowhere", layout_value(NULL, 0, 0), 0);
     const uint8_t bytes[3] = {0x9A, 0xBC, 0xDE};
     is("what is said of a byte of a slice", layout_byte(bytes, 3, 1), 0xBC01);
     is("of the byte after it", layout_byte(bytes, 3, 2), 0x02DE);
