@@ -132,6 +132,7 @@ make_part() {
         sed -E "/@(${own#|})\\(/!s/^define (noundef )?(\{|void|i[0-9])/define internal \\1\\2/" "$made/proved.ll" >"$made/$part.ll" &&
             (cd "$made" && for_target x86_64 -fstack-usage -c -x ir "$part.ll" -o "$part.o")
     else
+        # shellcheck disable=SC2046
         (cd "$made" && for_target "$target" "${c[@]}" -Wall -Wextra -fomit-frame-pointer \
             -fno-asynchronous-unwind-tables -fstack-usage -Xclang -mlink-builtin-bitcode -Xclang module.bc \
             $(calls_of "$part" <calls | sed 's/^/-DWITH_/') -S boundary.c -o "$part.s" && taking_few "$target" "$part.s" &&
