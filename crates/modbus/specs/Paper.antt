@@ -3,12 +3,14 @@
 -- Assumes nothing.
 use Rattle.std.specs.Prelude.{Bool, true, false, List, [], ◌∷◌, ℕ, zero, suc}
 use Rattle.modbus.specs.Step.{Step, stop, go, choose, ◌≤?◌}
-use Rattle.modbus.specs.Table.{Range}
+use Rattle.modbus.specs.Table.{Kind, bit, word, Range}
 use Rattle.modbus.specs.Request.{reads, code, tab_of}
 use Rattle.modbus.specs.declared.ErrorKind.{ErrorKind}
 use Rattle.modbus.specs.declared.ErrorKind.TheVariants.{OOB, OOBContext, FrameBroken, FrameCRCError, IllegalDataValue, ReadCallOnWriteFrame, WriteCallOnReadFrame}
 use Rattle.modbus.specs.declared.ModbusProto.{ModbusProto}
 use Rattle.modbus.specs.declared.ModbusProto.TheVariants.{Rtu, Ascii, TcpUdp}
+use Rattle.modbus.specs.declared.CellKind.{CellKind}
+use Rattle.modbus.specs.declared.CellKind.TheVariants.{Bits, Words}
 use Rattle.modbus.specs.declared.ByteAnswer.{ByteAnswer}
 use Rattle.modbus.specs.declared.ByteAnswer.TheVariants as byte
 use Rattle.modbus.specs.declared.SizeAnswer.{SizeAnswer}
@@ -42,6 +44,11 @@ abbrev pub proto_of : ℕ → ModbusProto
 proto_of zero = Rtu
 proto_of (suc zero) = Ascii
 proto_of (suc (suc n)) = TcpUdp
+
+-- the kind of cells, as the code names it
+abbrev pub kind_in : CellKind → Kind
+kind_in Bits = bit
+kind_in Words = word
 
 -- what a definition that may stop says, in numbers
 abbrev pub told : Step ErrorKind ℕ → ℕ × ℕ

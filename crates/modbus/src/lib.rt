@@ -26,6 +26,13 @@ pub enum ModbusProto {
     TcpUdp,
 }
 
+// What cells are: bits, as coils and discretes, or words, as registers.
+#[derive(Clone, Copy)]
+pub enum CellKind {
+    Bits,
+    Words,
+}
+
 // The crate's Result<u8, ErrorKind>.
 #[derive(Clone, Copy)]
 pub enum ByteAnswer {
