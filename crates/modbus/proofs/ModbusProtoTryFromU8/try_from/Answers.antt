@@ -1,8 +1,8 @@
--- `modbus::proto_of`: a number up to 2 is that transport's, any other is refused.
+-- `ModbusProto::try_from`: a number up to 2 is that transport's, any other is refused.
 use Rattle.std.proofs.Common.{ℕ, ◌≡◌, ◌≤◌, sym, ap, ◌∙◌, arith}
 use Rattle.modbus.specs.Paper.{proto_asked}
 use Rattle.modbus.proofs.StepLaws.{pick_yes, pick_no}
-use Rattle.modbus.proofs.proto_of.Goals as goal
+use Rattle.modbus.proofs.ModbusProtoTryFromU8.try_from.Goals as goal
 
 known : (n m : ℕ) → n ≡ m → m ≤ 2 → ◌≡◌ {A = ℕ × ℕ} (0, m) (proto_asked n)
 known n m e h = sym (pick_yes _ _ _ (omega arith) ∙ ap (λ (k : ℕ). (0, k)) e)
