@@ -4,7 +4,7 @@ use crate::state::same_state;
 use external::{Data, Read, ReadAnswer, ReadLeft, Reported, Write, WriteAnswer, WriteLeft};
 use frame::changes::Changes;
 use frame::{Left, ModbusFrame};
-use modbus::{DoneAnswer, ErrorKind, kind_number};
+use modbus::{ErrorKind, kind_number};
 use octets::{byte, word};
 
 // What is reported to a call.
@@ -43,8 +43,8 @@ pub(crate) fn left(record: &[u8], l: Left) -> bool {
     let answer = l.answer;
     let s = l.frame;
     match answer {
-        DoneAnswer::Done => bare(record, 0, s),
-        DoneAnswer::Refused(k) => bare(record, kind_number(k), s),
+        Ok(()) => bare(record, 0, s),
+        Err(k) => bare(record, kind_number(k), s),
     }
 }
 

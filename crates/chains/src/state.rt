@@ -1,6 +1,6 @@
 // The state of a frame as it stands in a record.
 use frame::{FunctionAnswer, ModbusError, ModbusFrame, ModbusFunction, function_of};
-use modbus::{ModbusProto, ProtoAnswer, proto_of};
+use modbus::{ModbusProto, proto_of};
 use octets::{byte, word};
 use records::parts::eight;
 
@@ -11,8 +11,8 @@ const AFTER: usize = 30;
 
 fn proto(number: u8) -> ModbusProto {
     match proto_of(number) {
-        ProtoAnswer::Value(p) => p,
-        ProtoAnswer::BadSetup => ModbusProto::TcpUdp,
+        Ok(p) => p,
+        Err(BadSetup) => ModbusProto::TcpUdp,
     }
 }
 

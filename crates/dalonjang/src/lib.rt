@@ -15,7 +15,7 @@ ghost use Rattle.dalonjang.specs.Numbered.{side_body, guessed};
 
 use client::{ModbusRequest, Reading};
 use driver::{Driven, Setup};
-use modbus::{Answer, ProtoAnswer};
+use modbus::Answer;
 
 pub fn dalonjang_drive(
     setup: Setup,
@@ -38,7 +38,7 @@ pub fn dalonjang_drive(
 pub fn dalonjang_offer(state: &mut [u8], bytes: &[u8]) -> Answer
     ensures { ((result.kind, result.value), state.new) ≡ told_with state.old (offered state.old bytes.now) }
 {
-    modbus::size_answer(collector::offer(state, bytes))
+    Answer::from(collector::offer(state, bytes))
 }
 
 pub fn dalonjang_quiet(
@@ -68,13 +68,13 @@ pub fn dalonjang_parse_ascii_frame(
 ) -> Answer
     ensures { ((result.kind, result.value), frame_buf.new) ≡ parsed_under hex «data».now data_len frame_buf.old frame_pos }
 {
-    modbus::byte_answer(ascii::parse_ascii_frame(data, data_len, frame_buf, frame_pos, hex))
+    Answer::from(ascii::parse_ascii_frame(data, data_len, frame_buf, frame_pos, hex))
 }
 
 pub fn dalonjang_generate_ascii_frame(data: &[u8], res: &mut [u8]) -> Answer
     ensures { ((result.kind, result.value), res.new) ≡ generated_into «data».now res.old }
 {
-    modbus::size_answer(ascii::generate_ascii_frame(data, res))
+    Answer::from(ascii::generate_ascii_frame(data, res))
 }
 
 pub fn dalonjang_calc_crc16(frame: &[u8], data_length: u8) -> u16
@@ -92,12 +92,12 @@ fn guess_frame_len(request: bool, frame: &[u8], proto: u8, hex: u8) -> Answer
     }
     let transport = modbus::proto_of(proto);
     match transport {
-        ProtoAnswer::BadSetup => Answer { value: 0, kind: 10 },
-        ProtoAnswer::Value(p) => {
+        Err(BadSetup) => Answer { value: 0, kind: 10 },
+        Ok(p) => {
             if request {
-                return modbus::byte_answer(lengths::guess_request_frame_len(frame, p, hex));
+                return Answer::from(lengths::guess_request_frame_len(frame, p, hex));
             }
-            modbus::byte_answer(lengths::guess_response_frame_len(frame, p, hex))
+            Answer::from(lengths::guess_response_frame_len(frame, p, hex))
         }
     }
 }

@@ -4,13 +4,12 @@ use mathlib.Core.Path.{◌≡◌, refl, sym, ap, ◌∙◌}
 use mathlib.Core.List.{List}
 use Prim.Native.Nat.{ℕ, ◌≤◌, ◌<◌}
 use lib.ListN.{length}
+use Rattle.std.specs.Prelude.{Result, Ok, Err}
 use Rattle.modbus.specs.Step.{stop, choose, ◌≟◌}
 use Rattle.modbus.specs.Ported.{Ported, reads, one, many}
-use Rattle.modbus.specs.Paper.{number, told_with, size_paper}
+use Rattle.modbus.specs.Paper.{number, told_with, paper}
 use Rattle.modbus.specs.declared.ErrorKind.{ErrorKind}
 use Rattle.modbus.specs.declared.ErrorKind.TheVariants.{OOB, IllegalDataValue}
-use Rattle.modbus.specs.declared.SizeAnswer.{SizeAnswer}
-use Rattle.modbus.specs.declared.SizeAnswer.TheVariants as size
 use Rattle.modbus.proofs.StepLaws.{pick_yes, pick_no}
 use Rattle.modbus.proofs.PaperLaws.{told_same, value_with, refusal_with}
 use Rattle.response.specs.Bounded.{resized}
@@ -52,19 +51,19 @@ error_stays c s out d q = ap (λ (x : ModbusError). error_set x c s out) q
 
 -- n is the length to leave, r and l what the bounded response answered and then held
 module _ (c : ℕ) (s : ModbusFrame) (out : List ℕ) (u : s.error ≡ Unset) (n : ℕ) (e : n ≡ len_to_leave s.proto)
-    (r : SizeAnswer) (l : List ℕ)
-    (p : (size_paper r, l) ≡ told_with out (resized out s.response_len n 0)) where
+    (r : Result ℕ ErrorKind) (l : List ℕ)
+    (p : (paper r, l) ≡ told_with out (resized out s.response_len n 0)) where
   set_by : error_set s.error c s out ≡ resized_to c s out (resized out s.response_len n 0)
   set_by =
       ap (λ (x : ModbusError). error_set x c s out) u
       ∙ ap (λ (m : ℕ). resized_to c s out (resized out s.response_len m 0)) (sym e)
 
-  pub error_full : (k : ErrorKind) → r ≡ size.Refused k → error_set s.error c s out ≡ refused k s l
+  pub error_full : (k : ErrorKind) → r ≡ Err k → error_set s.error c s out ≡ refused k s l
   error_full k q =
       let w = refusal_with out l (resized out s.response_len n 0) k (rw q at p) in
       set_by ∙ ap (resized_to c s out) w.0 ∙ ap (refused k s) (sym w.1)
 
-  pub error_set_law : (m : ℕ) → r ≡ size.Value m → error_set s.error c s out ≡ well (with_error c (grown m s)) l
+  pub error_set_law : (m : ℕ) → r ≡ Ok m → error_set s.error c s out ≡ well (with_error c (grown m s)) l
   error_set_law m q = set_by ∙ ap (resized_to c s out) (value_with out l (resized out s.response_len n 0) m (rw q at p))
 
 module _ (e : Reported) (s : ModbusFrame) (out : List ℕ) where

@@ -5,15 +5,12 @@ use mathlib.Core.List.{List, [], ◌∷◌}
 use Prim.Native.Nat.{ℕ, ◌+◌, ◌≤◌, ◌<◌}
 use native.Mathlib.Omega.{arith}
 use lib.ListN.{length}
+use Rattle.std.specs.Prelude.{Result, Ok, Err, ⊤}
 use Rattle.modbus.specs.Step.{Step, stop, go, ◌≤?◌}
 use Rattle.modbus.specs.Table.{Kind}
-use Rattle.modbus.specs.Paper.{told_with, done_paper, size_paper}
+use Rattle.modbus.specs.Paper.{told_with, done_paper, paper}
 use Rattle.modbus.specs.declared.ErrorKind.{ErrorKind}
 use Rattle.modbus.specs.declared.ErrorKind.TheVariants.{OOB}
-use Rattle.modbus.specs.declared.DoneAnswer.{DoneAnswer}
-use Rattle.modbus.specs.declared.DoneAnswer.TheVariants as done
-use Rattle.modbus.specs.declared.SizeAnswer.{SizeAnswer}
-use Rattle.modbus.specs.declared.SizeAnswer.TheVariants as size
 use Rattle.modbus.proofs.StepLaws.{pick_yes, pick_no}
 use Rattle.modbus.proofs.PaperLaws.{number_some, value_with, refusal_with}
 use Rattle.response.specs.Bounded.{resized}
@@ -57,13 +54,13 @@ module _ (s : ModbusFrame) (out : List ℕ) (bytes : ℕ) where
       by (no p) = resized_long out _ _ 0 (omega arith)
 
   -- r and l are what the bounded response answered and then held
-  module _ (r : SizeAnswer) (l : List ℕ) (p : (size_paper r, l) ≡ told_with out lengthened) where
-    pub room_refused : (k : ErrorKind) → r ≡ size.Refused k → room ≡ room_paper (no_room k s) l
+  module _ (r : Result ℕ ErrorKind) (l : List ℕ) (p : (paper r, l) ≡ told_with out lengthened) where
+    pub room_refused : (k : ErrorKind) → r ≡ Err k → room ≡ room_paper (no_room k s) l
     room_refused k q =
         let w = refusal_with out l lengthened k (rw q at p) in
         ap (room_sized s (response_of s out)) w.0 ∙ ap (room_paper (no_room k s)) (sym w.1)
 
-    pub room_made : (n : ℕ) → r ≡ size.Value n → room ≡ (well (grown n s) l, s.response_len)
+    pub room_made : (n : ℕ) → r ≡ Ok n → room ≡ (well (grown n s) l, s.response_len)
     room_made n q = ap (room_sized s (response_of s out)) (value_with out l lengthened n (rw q at p))
 
 regrown : (n : ℕ) (s : ModbusFrame) (r : Response) (m : Step ErrorKind (ℕ × List ℕ))
@@ -78,18 +75,18 @@ module _ (bytes : ℕ) (s : ModbusFrame) (buf out : List ℕ) (g : Grown) (l : L
   headed = head s.proto buf s.frame_start bytes (response_of s out)
 
   -- its number, where the answer is known
-  headed_as : (a : DoneAnswer) → g.answer ≡ a → growth headed ≡ ((done_paper a).0, response g.len l)
-  headed_as a q = sym e ∙ ap (λ (x : DoneAnswer). ((done_paper x).0, response g.len l)) q
+  headed_as : (a : Result ⊤ ErrorKind) → g.answer ≡ a → growth headed ≡ ((done_paper a).0, response g.len l)
+  headed_as a q = sym e ∙ ap (λ (x : Result ⊤ ErrorKind). ((done_paper x).0, response g.len l)) q
 
-  pub roomed_not : (k : ErrorKind) → g.answer ≡ done.Refused k
+  pub roomed_not : (k : ErrorKind) → g.answer ≡ Err k
       → roomed bytes s headed ≡ room_paper (no_room k (grown g.len s)) l
-  roomed_not k q = ap (roomed bytes s) (stopped headed k g.len l (headed_as (done.Refused k) q))
+  roomed_not k q = ap (roomed bytes s) (stopped headed k g.len l (headed_as (Err k) q))
 
-  pub roomed_on : g.answer ≡ done.Done
+  pub roomed_on : g.answer ≡ (Ok tt)
       → roomed bytes s headed
       ≡ room_sized (grown g.len s) (response g.len l) (resized l g.len (g.len + bytes) 0)
   roomed_on q =
-      ap (roomed bytes s) (grew headed g.len l (headed_as done.Done q))
+      ap (roomed bytes s) (grew headed g.len l (headed_as (Ok tt) q))
       ∙ regrown g.len s (response g.len l) (resized l g.len (g.len + bytes) 0)
 
 -- x and l are what the call that makes room left
@@ -101,10 +98,10 @@ module _ (k : Kind) (s : ModbusFrame) (buf out : List ℕ) (bytes : ℕ) (b : by
       ap (λ (n : ℕ). room_told k s (roomed n s (head s.proto buf s.frame_start n (response_of s out)))) (sym b)
       ∙ ap (room_told k s) (sym e)
 
-  pub wanted_not : (j : ErrorKind) → x.answer ≡ done.Refused j → wanted k s buf out ≡ without (refused j x.frame l)
+  pub wanted_not : (j : ErrorKind) → x.answer ≡ Err j → wanted k s buf out ≡ without (refused j x.frame l)
   wanted_not j q = wanted_by ∙ rw q (pick_no _ _ _ (number_some j))
 
   -- vs are the numbers of what the code answers
-  pub wanted_at : x.answer ≡ done.Done → (vs : List ℕ)
+  pub wanted_at : x.answer ≡ (Ok tt) → (vs : List ℕ)
       → vs ≡ kind_number k ∷ s.reg ∷ s.count ∷ x.at ∷ bytes ∷ [] → wanted k s buf out ≡ described (0, vs) x.frame l
   wanted_at q vs w = wanted_by ∙ rw (q, w, b) (pick_yes _ _ _ refl)

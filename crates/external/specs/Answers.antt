@@ -1,11 +1,10 @@
 -- What these calls leave, in the words of the code, for the contracts of private functions.
 -- Assumes nothing.
-use Rattle.std.specs.Prelude.{List, ℕ}
+use Rattle.std.specs.Prelude.{List, ℕ, Err}
 use Rattle.modbus.specs.Ported.{Ported, reads, one, many}
 use Rattle.modbus.specs.Paper.{done_paper}
 use Rattle.modbus.specs.declared.ErrorKind.{ErrorKind}
 use Rattle.modbus.specs.declared.ErrorKind.TheVariants.{WriteCallOnReadFrame}
-use Rattle.modbus.specs.declared.DoneAnswer.TheVariants.{Refused}
 use Rattle.frame.specs.State.{After, after, done_of, refused_of}
 use Rattle.frame.specs.declared.ModbusFrame.{ModbusFrame}
 use Rattle.frame.specs.declared.Left.{Left}
@@ -37,4 +36,4 @@ abbrev pub room_paper : Room → List ℕ → After × ℕ
 room_paper r l = (after (done_paper r.answer).0 r.frame l, r.at)
 
 abbrev pub no_room : ErrorKind → ModbusFrame → Room
-no_room k s = record { answer = Refused k; at = 0; frame = s }
+no_room k s = record { answer = Err k; at = 0; frame = s }

@@ -5,7 +5,7 @@ ghost use Rattle.external.specs.External.{report_code, kind_code, len_to_leave, 
 
 use crate::Reported;
 use frame::{Left, ModbusError, ModbusFrame};
-use modbus::{ErrorKind, ModbusProto, SizeAnswer};
+use modbus::{ErrorKind, ModbusProto};
 
 // The response is cut or filled to what finalize_response expects: the transaction and the protocol on TCP, else
 // nothing.
@@ -19,8 +19,8 @@ pub(crate) fn set_code(frame: ModbusFrame, code: u8, response: &mut [u8]) -> Lef
         ModbusError::Unset => {
             let proto = frame.proto;
             match response::resize(response, frame.response_len, len_to_leave(proto), 0) {
-                SizeAnswer::Refused(k) => frame.refused(k),
-                SizeAnswer::Value(n) => {
+                Err(k) => frame.refused(k),
+                Ok(n) => {
                     let mut s = frame;
                     s.response_len = n;
                     s.with_error(code).done()

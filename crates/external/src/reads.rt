@@ -11,14 +11,14 @@ ghost use Rattle.external.specs.Answers.{read_refused, read_done_left, no_room, 
 
 use crate::{Read, ReadAnswer, ReadBits, ReadLeft, ReadWords};
 use frame::{Left, ModbusFrame, ModbusFunction};
-use modbus::{DoneAnswer, ErrorKind, SizeAnswer};
+use modbus::ErrorKind;
 use process::added::add_head;
 use process::cells::{Cells, data_bytes};
 
 // Room for a read's data in the response: from a place on, where there is any.
 #[derive(Clone, Copy)]
 pub(crate) struct Room {
-    pub answer: DoneAnswer,
+    pub answer: Result<(), ErrorKind>,
     pub at: usize,
     pub frame: ModbusFrame,
 }
@@ -41,8 +41,8 @@ pub(crate) fn want(frame: ModbusFrame, buf: &[u8], of: Cells, response: &mut [u8
     let s = room.frame;
     let answer = room.answer;
     match answer {
-        DoneAnswer::Refused(k) => refuse_read(k, s),
-        DoneAnswer::Done => {
+        Err(k) => refuse_read(k, s),
+        Ok(()) => {
             let read = read_of(of, frame.reg, frame.count, room.at, bytes as usize);
             ReadLeft {
                 answer: ReadAnswer::Value(read),
@@ -82,8 +82,8 @@ fn make_room(frame: ModbusFrame, buf: &[u8], bytes: u16, response: &mut [u8]) ->
     s.response_len = h.len;
     let answer = h.answer;
     match answer {
-        DoneAnswer::Refused(k) => no_room(s, k),
-        DoneAnswer::Done => add_room(s, bytes, response),
+        Err(k) => no_room(s, k),
+        Ok(()) => add_room(s, bytes, response),
     }
 }
 
@@ -91,7 +91,7 @@ fn no_room(frame: ModbusFrame, kind: ErrorKind) -> Room
     ensures { result ≡ no_room kind frame }
 {
     Room {
-        answer: DoneAnswer::Refused(kind),
+        answer: Err(kind),
         at: 0,
         frame: frame,
     }
@@ -108,12 +108,12 @@ fn add_room(frame: ModbusFrame, bytes: u16, response: &mut [u8]) -> Room
         return no_room(frame, ErrorKind::OOB);
     }
     match response::resize(response, at, at + n, 0) {
-        SizeAnswer::Refused(k) => no_room(frame, k),
-        SizeAnswer::Value(end) => {
+        Err(k) => no_room(frame, k),
+        Ok(end) => {
             let mut s = frame;
             s.response_len = end;
             Room {
-                answer: DoneAnswer::Done,
+                answer: Ok(()),
                 at: at,
                 frame: s,
             }

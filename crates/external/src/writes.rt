@@ -1,6 +1,6 @@
 // What the firmware is to write.
 ghost use Rattle.std.specs.Prelude.{◌≡◌, List, ◌∷◌, ℕ};
-ghost use Rattle.modbus.specs.Paper.{told, done_paper, size_paper};
+ghost use Rattle.modbus.specs.Paper.{told, done_paper, paper};
 ghost use Rattle.modbus.specs.declared.ErrorKind.TheVariants.{ReadCallOnWriteFrame};
 ghost use Rattle.frame.specs.State.{ported_of, left_paper};
 ghost use Rattle.frame.specs.Changes.{kind_number};
@@ -12,7 +12,7 @@ ghost use Rattle.external.specs.Answers.{write_left, write_refused};
 use crate::errors::set_code;
 use crate::{Data, Write, WriteAnswer, WriteBits, WriteLeft, WriteWords};
 use frame::{Left, ModbusFrame, ModbusFunction};
-use modbus::{DoneAnswer, ErrorKind, SizeAnswer};
+use modbus::ErrorKind;
 use octets::word;
 use process::added::add_echo;
 use process::cells::{Cells, data_behind, illegal};
@@ -55,8 +55,8 @@ pub(crate) fn want_coil(frame: ModbusFrame, buf: &[u8], response: &mut [u8]) -> 
 {
     let start = frame.frame_start;
     match index(buf, start, 4, 6) {
-        DoneAnswer::Refused(k) => write_left(WriteAnswer::Refused(k), frame),
-        DoneAnswer::Done => {
+        Err(k) => write_left(WriteAnswer::Refused(k), frame),
+        Ok(()) => {
             let value = word(buf, start + 4);
             if illegal(Cells::Bits, value) {
                 return refuse_value(frame, response);
@@ -77,8 +77,8 @@ fn refuse_value(frame: ModbusFrame, response: &mut [u8]) -> WriteLeft
     let s = l.frame;
     let answer = l.answer;
     match answer {
-        DoneAnswer::Refused(k) => write_left(WriteAnswer::Refused(k), s),
-        DoneAnswer::Done => write_left(WriteAnswer::Refused(ErrorKind::IllegalDataValue), s),
+        Err(k) => write_left(WriteAnswer::Refused(k), s),
+        Ok(()) => write_left(WriteAnswer::Refused(ErrorKind::IllegalDataValue), s),
     }
 }
 
@@ -87,8 +87,8 @@ pub(crate) fn want_holding(frame: ModbusFrame, buf: &[u8]) -> WriteLeft
 {
     let start = frame.frame_start;
     match index(buf, start, 6, 6) {
-        DoneAnswer::Refused(k) => write_left(WriteAnswer::Refused(k), frame),
-        DoneAnswer::Done => {
+        Err(k) => write_left(WriteAnswer::Refused(k), frame),
+        Ok(()) => {
             let write = write_of(Cells::Words, frame.reg, 1, Data::Place(start + 4, 2));
             write_left(WriteAnswer::Value(write), frame)
         }
@@ -99,8 +99,8 @@ pub(crate) fn want_many(frame: ModbusFrame, buf: &[u8], of: Cells) -> WriteLeft
     ensures { (out : List ℕ) → write_described result out ≡ many_described (kind_in of) frame buf.now out }
 {
     match data_len(frame, buf) {
-        SizeAnswer::Refused(k) => write_left(WriteAnswer::Refused(k), frame),
-        SizeAnswer::Value(n) => {
+        Err(k) => write_left(WriteAnswer::Refused(k), frame),
+        Ok(n) => {
             let data = Data::Place(frame.frame_start + 7, n);
             let write = write_of(of, frame.reg, frame.count, data);
             write_left(WriteAnswer::Value(write), frame)
@@ -109,30 +109,30 @@ pub(crate) fn want_many(frame: ModbusFrame, buf: &[u8], of: Cells) -> WriteLeft
 }
 
 // How many data bytes a write of many has, or its refusal.
-fn data_len(frame: ModbusFrame, buf: &[u8]) -> SizeAnswer
-    ensures { size_paper result ≡ told (data_len frame buf.now) }
+fn data_len(frame: ModbusFrame, buf: &[u8]) -> Result<usize, ErrorKind>
+    ensures { paper result ≡ told (data_len frame buf.now) }
 {
     let start = frame.frame_start;
     match index(buf, start, 6, 7) {
-        DoneAnswer::Refused(k) => SizeAnswer::Refused(k),
-        DoneAnswer::Done => data_behind(buf, start),
+        Err(k) => Err(k),
+        Ok(()) => data_behind(buf, start),
     }
 }
 
 // Whether the bytes of the frame up to `end` are there; a sum that overflows is one of up to `first`.
-fn index(buf: &[u8], start: usize, first: usize, end: usize) -> DoneAnswer
+fn index(buf: &[u8], start: usize, first: usize, end: usize) -> Result<(), ErrorKind>
     ensures { done_paper result ≡ told (indexed buf.now start first end) }
 {
     if usize::MAX - first < start {
-        return DoneAnswer::Refused(ErrorKind::OOB);
+        return Err(ErrorKind::OOB);
     }
     if buf.len() < end {
-        return DoneAnswer::Refused(ErrorKind::FrameBroken);
+        return Err(ErrorKind::FrameBroken);
     }
     if buf.len() - end < start {
-        return DoneAnswer::Refused(ErrorKind::FrameBroken);
+        return Err(ErrorKind::FrameBroken);
     }
-    DoneAnswer::Done
+    Ok(())
 }
 
 pub(crate) fn write_done(frame: ModbusFrame, buf: &[u8], response: &mut [u8]) -> Left

@@ -7,7 +7,8 @@ use Prim.Native.Nat.{ℕ}
 use native.Mathlib.Omega.{arith}
 use lib.Dec.{eqb}
 use lib.ListN.{length, get_or}
-use Rattle.modbus.specs.declared.DoneAnswer.{DoneAnswer}
+use Rattle.modbus.specs.declared.ErrorKind.{ErrorKind}
+use Rattle.std.specs.Prelude.{Result, ⊤}
 use Rattle.modbus.proofs.Unique.{Unique, done_number, by_back}
 use Rattle.frame.specs.State.{func_of, ported_of, function_paper, After, left_paper}
 use Rattle.frame.specs.declared.FunctionAnswer.{FunctionAnswer}
@@ -39,7 +40,7 @@ use Rattle.frame.proofs.ModbusFrame.parse.Reads as parse-reads
 pub left_paper_law : {U : Type 0} (lasts : List ℕ → U) (x y : Left) (l m : List ℕ) → left_paper x l ≡ left_paper y m
     → (x ≡ y) × (lasts l ≡ lasts m)
 left_paper_law lasts x y l m e = (
-  ap₂ (λ (a : DoneAnswer) (s : ModbusFrame). record { answer = a; frame = s })
+  ap₂ (λ (a : Result ⊤ ErrorKind) (s : ModbusFrame). record { answer = a; frame = s })
       (done_number x.answer y.answer (ap (λ (t : After). t.kind) e))
       (ap (λ (t : After). t.frame) e),
   ap (λ (t : After). lasts t.out) e,

@@ -1,6 +1,6 @@
 -- The state of a frame (source 000, `ModbusFrame`), and what a call leaves. The definitions use the code's own types; their numbers stand here.
 -- Assumes nothing.
-use Rattle.std.specs.Prelude.{Bool, true, false, List, ℕ}
+use Rattle.std.specs.Prelude.{Bool, true, false, List, ℕ, Ok, Err}
 use Rattle.modbus.specs.Step.{Step, stop, go}
 use Rattle.modbus.specs.Table.{coils, discretes, holdings, inputs, bit, word}
 use Rattle.modbus.specs.Ported.{Ported, reads, one, many, code_of, all_ported}
@@ -8,7 +8,6 @@ use Rattle.modbus.specs.Drive.{find}
 use Rattle.modbus.specs.Paper.{number, done_paper}
 use Rattle.modbus.specs.declared.ErrorKind.{ErrorKind}
 use Rattle.modbus.specs.declared.ModbusProto.{ModbusProto}
-use Rattle.modbus.specs.declared.DoneAnswer.TheVariants.{Done, Refused}
 use Rattle.frame.specs.declared.ModbusFunction.{ModbusFunction}
 use Rattle.frame.specs.declared.ModbusFunction.TheVariants.{GetCoils, GetDiscretes, GetHoldings, GetInputs, SetCoil, SetHolding, SetCoilsBulk, SetHoldingsBulk}
 use Rattle.frame.specs.declared.ModbusError.{ModbusError}
@@ -142,10 +141,10 @@ abbrev pub left_paper : Left → List ℕ → After
 left_paper r l = after (done_paper r.answer).0 r.frame l
 
 abbrev pub done_of : ModbusFrame → Left
-done_of s = record { answer = Done; frame = s }
+done_of s = record { answer = (Ok tt); frame = s }
 
 abbrev pub refused_of : ErrorKind → ModbusFrame → Left
-refused_of k s = record { answer = Refused k; frame = s }
+refused_of k s = record { answer = Err k; frame = s }
 
 -- a call that ended at a line, or went through
 abbrev pub ended : Step After After → After

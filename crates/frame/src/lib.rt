@@ -8,7 +8,7 @@ pub mod parse;
 ghost use Rattle.std.specs.Prelude.{◌≡◌};
 ghost use Rattle.frame.specs.State.{fresh, with_func, with_error, function_paper, function_of, done_of, refused_of};
 
-use modbus::{DoneAnswer, ErrorKind, ModbusProto};
+use modbus::{ErrorKind, ModbusProto};
 
 #[derive(Clone, Copy)]
 pub enum ModbusFunction {
@@ -49,7 +49,7 @@ pub struct ModbusFrame {
 // What a call leaves: its answer and the state.
 #[derive(Clone, Copy)]
 pub struct Left {
-    pub answer: DoneAnswer,
+    pub answer: Result<(), ErrorKind>,
     pub frame: ModbusFrame,
 }
 
@@ -143,7 +143,7 @@ impl ModbusFrame {
         ensures { result ≡ done_of self }
     {
         Left {
-            answer: DoneAnswer::Done,
+            answer: Ok(()),
             frame: self,
         }
     }
@@ -152,7 +152,7 @@ impl ModbusFrame {
         ensures { result ≡ refused_of kind self }
     {
         Left {
-            answer: DoneAnswer::Refused(kind),
+            answer: Err(kind),
             frame: self,
         }
     }

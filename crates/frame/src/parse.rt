@@ -8,7 +8,7 @@ ghost use Rattle.frame.specs.Parse.{many_accepted, many_parsed, requested, funct
 
 use crate::{FunctionAnswer, Left, ModbusFrame, ModbusFunction, function_of};
 use incoming::{check_frame_crc, frame_start, overflows};
-use modbus::{DoneAnswer, ErrorKind, ModbusProto, SizeAnswer};
+use modbus::{ErrorKind, ModbusProto};
 use octets::{contains, word};
 
 impl ModbusFrame {
@@ -21,8 +21,8 @@ impl ModbusFrame {
         }
         let proto = self.proto;
         match frame_start(proto, self.frame_start, buf) {
-            SizeAnswer::Refused(k) => self.refused(k),
-            SizeAnswer::Value(n) => {
+            Err(k) => self.refused(k),
+            Ok(n) => {
                 let mut s = self;
                 s.frame_start = n;
                 s.address(buf, list, response)
@@ -57,8 +57,8 @@ impl ModbusFrame {
             return self.name(broadcast, buf);
         }
         match response::extend(response, self.response_len, &buf[0..4]) {
-            SizeAnswer::Refused(k) => self.refused(k),
-            SizeAnswer::Value(n) => {
+            Err(k) => self.refused(k),
+            Ok(n) => {
                 let mut s = self;
                 s.response_len = n;
                 s.name(broadcast, buf)
@@ -125,8 +125,8 @@ impl ModbusFrame {
         }
         let proto = self.proto;
         match check_frame_crc(proto, buf, start, 6) {
-            DoneAnswer::Refused(k) => self.refused(k),
-            DoneAnswer::Done => self.accept_read(most, buf),
+            Err(k) => self.refused(k),
+            Ok(()) => self.accept_read(most, buf),
         }
     }
 
@@ -169,8 +169,8 @@ impl ModbusFrame {
         }
         let proto = self.proto;
         match check_frame_crc(proto, buf, start, 6) {
-            DoneAnswer::Refused(k) => self.refused(k),
-            DoneAnswer::Done => {
+            Err(k) => self.refused(k),
+            Ok(()) => {
                 let mut s = self.answer(broadcast);
                 s.count = 1;
                 s.processing_required = true;
@@ -195,8 +195,8 @@ impl ModbusFrame {
             return given.refused(ErrorKind::FrameBroken);
         }
         match check_frame_crc(proto, buf, start, len) {
-            DoneAnswer::Refused(k) => self.refused(k),
-            DoneAnswer::Done => self.accept_many(most, broadcast, buf),
+            Err(k) => self.refused(k),
+            Ok(()) => self.accept_many(most, broadcast, buf),
         }
     }
 

@@ -5,7 +5,7 @@ use mathlib.Core.List.{List}
 use Prim.Native.Nat.{ℕ, ◌≤◌}
 use native.Mathlib.Omega.{arith}
 use Rattle.modbus.specs.declared.Digit.{Digit}
-use Rattle.std.specs.Prelude.{Result, Ok, Err}
+use Rattle.std.specs.Prelude.{IsErrAnd, Result, Ok, Err}
 use Rattle.modbus.specs.Step.{Step, stop, go, ◌≤?◌}
 use Rattle.modbus.specs.Table.{bit, word}
 use Rattle.modbus.specs.Request.{Ask, read, write, writes, masks, swaps, writing}
@@ -38,6 +38,11 @@ told_same m n e =
     sym (step_answer m)
     ∙ ap step_of (paper_law (answer_of m) (answer_of n) (told_answer m ∙ e ∙ sym (told_answer n)))
     ∙ step_answer n
+
+-- a refusal that `?` hands on is the callee's
+pub handed_on : {A E : Type 0} {k : E} (r : Result A E) → IsErrAnd r (λ e. e ≡ k) → r ≡ Err k
+handed_on (Ok v) p = absurd p
+handed_on (Err e) p = ap Err p
 
 -- no refusal has the number of a call that was done
 pub number_some : (k : ErrorKind) → number k ≡ 0 → ⊥

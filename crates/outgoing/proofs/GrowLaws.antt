@@ -6,14 +6,11 @@ use Prim.Native.Nat.{ℕ, ◌+◌, ◌≤◌, ◌<◌}
 use native.Mathlib.Omega.{arith}
 use lib.ListN.{length}
 use lib.Seq.{sets}
+use Rattle.std.specs.Prelude.{Result, Ok, Err, ⊤}
 use Rattle.modbus.specs.Step.{Step, stop, go, ◌>>=◌}
-use Rattle.modbus.specs.Paper.{number, told_with, done_paper, size_paper}
+use Rattle.modbus.specs.Paper.{number, told_with, done_paper, paper}
 use Rattle.modbus.specs.declared.ErrorKind.{ErrorKind}
 use Rattle.modbus.specs.declared.ErrorKind.TheVariants.{OOB}
-use Rattle.modbus.specs.declared.DoneAnswer.{DoneAnswer}
-use Rattle.modbus.specs.declared.DoneAnswer.TheVariants as done
-use Rattle.modbus.specs.declared.SizeAnswer.{SizeAnswer}
-use Rattle.modbus.specs.declared.SizeAnswer.TheVariants as size
 use Rattle.modbus.proofs.PaperLaws.{number_some}
 use Rattle.modbus.proofs.StepLaws.{follow, halt}
 use Rattle.modbus.proofs.Unique.{done_paper_law}
@@ -25,7 +22,7 @@ use Rattle.outgoing.specs.declared.Grown.{Grown}
 -- ---- what a call's answer tells
 
 kind_same : (j k : ErrorKind) → number j ≡ number k → j ≡ k
-kind_same j k e = let p = done_paper_law (done.Refused j) (done.Refused k) (ap (λ (n : ℕ). (n, 0)) e) in cc
+kind_same j k e = let p = done_paper_law (Err j) (Err k) (ap (λ (n : ℕ). (n, 0)) e) in cc
 
 grown_same : (m n : Step Short Response) → growth m ≡ growth n → m ≡ n
 grown_same (go r) (go s) e = ap (λ (t : ℕ × Response). go t.1) e
@@ -44,38 +41,38 @@ stopped m k n l e = grown_same m (stop (short k (response n l))) e
 
 -- a step that was done goes on with the response as it then stands
 pub goes_on : (m : Step Short Response) (f : Response → Step Short Response) (g : Grown) (l : List ℕ)
-    → grown_paper g l ≡ growth m → g.answer ≡ done.Done → (m >>= f) ≡ f (response g.len l)
+    → grown_paper g l ≡ growth m → g.answer ≡ (Ok tt) → (m >>= f) ≡ f (response g.len l)
 goes_on m f g l e q =
-    follow m f (grew m g.len l (sym e ∙ ap (λ (a : DoneAnswer). ((done_paper a).0, response g.len l)) q))
+    follow m f (grew m g.len l (sym e ∙ ap (λ (a : Result ⊤ ErrorKind). ((done_paper a).0, response g.len l)) q))
 
 -- one that was refused ends the call
 pub ends_there : (m : Step Short Response) (f : Response → Step Short Response) (g : Grown) (l : List ℕ) (k : ErrorKind)
-    → grown_paper g l ≡ growth m → g.answer ≡ done.Refused k → grown_paper g l ≡ growth (m >>= f)
+    → grown_paper g l ≡ growth m → g.answer ≡ Err k → grown_paper g l ≡ growth (m >>= f)
 ends_there m f g l k e q =
-    let p = stopped m k g.len l (sym e ∙ ap (λ (a : DoneAnswer). ((done_paper a).0, response g.len l)) q) in
+    let p = stopped m k g.len l (sym e ∙ ap (λ (a : Result ⊤ ErrorKind). ((done_paper a).0, response g.len l)) q) in
     e ∙ ap growth (p ∙ sym (halt m f p))
 
 -- ---- bytes added
 
 -- an answer on the bounded response, with the length that stands where it refuses
-abbrev after : ℕ → SizeAnswer → Grown
-after len (size.Value n) = record { answer = done.Done; len = n }
-after len (size.Refused k) = refused_at k len
+abbrev after : ℕ → Result ℕ ErrorKind → Grown
+after len (Ok n) = record { answer = (Ok tt); len = n }
+after len (Err k) = refused_at k len
 
-after_grown : (s : SizeAnswer) (m : Step ErrorKind (ℕ × List ℕ)) (out l : List ℕ) (len : ℕ)
-    → (size_paper s, l) ≡ told_with out m → grown_paper (after len s) l ≡ growth (or_short (response len out) m)
+after_grown : (s : Result ℕ ErrorKind) (m : Step ErrorKind (ℕ × List ℕ)) (out l : List ℕ) (len : ℕ)
+    → (paper s, l) ≡ told_with out m → grown_paper (after len s) l ≡ growth (or_short (response len out) m)
 unfolding or_short
-after_grown (size.Value n) (go (v, k)) out l len e = ap (λ (t : (ℕ × ℕ) × List ℕ). (0, response t.0.1 t.1)) e
-after_grown (size.Value n) (stop k) out l len e =
+after_grown (Ok n) (go (v, k)) out l len e = ap (λ (t : (ℕ × ℕ) × List ℕ). (0, response t.0.1 t.1)) e
+after_grown (Ok n) (stop k) out l len e =
     absurd (number_some k (sym (ap (λ (t : (ℕ × ℕ) × List ℕ). t.0.0) e)))
-after_grown (size.Refused k) (go (v, j)) out l len e = absurd (number_some k (ap (λ (t : (ℕ × ℕ) × List ℕ). t.0.0) e))
-after_grown (size.Refused k) (stop j) out l len e = ap (λ (t : (ℕ × ℕ) × List ℕ). (t.0.0, response len t.1)) e
+after_grown (Err k) (go (v, j)) out l len e = absurd (number_some k (ap (λ (t : (ℕ × ℕ) × List ℕ). t.0.0) e))
+after_grown (Err k) (stop j) out l len e = ap (λ (t : (ℕ × ℕ) × List ℕ). (t.0.0, response len t.1)) e
 
-pub extend_grown : (s a : SizeAnswer) (out d l : List ℕ) (len : ℕ)
-    → (size_paper s, l) ≡ told_with out (extended out len d) → s ≡ a
+pub extend_grown : (s a : Result ℕ ErrorKind) (out d l : List ℕ) (len : ℕ)
+    → (paper s, l) ≡ told_with out (extended out len d) → s ≡ a
     → grown_paper (after len a) l ≡ growth (add d (response len out))
 extend_grown s a out d l len e q =
-    ap (λ (b : SizeAnswer). grown_paper (after len b) l) (sym q) ∙ after_grown s _ out l len e
+    ap (λ (b : Result ℕ ErrorKind). grown_paper (after len b) l) (sym q) ∙ after_grown s _ out l len e
 
 module _ (len : ℕ) (out : List ℕ) where
   pub add_none : (d : List ℕ) → length out < len + length d

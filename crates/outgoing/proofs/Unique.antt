@@ -3,7 +3,8 @@
 use mathlib.Core.Path.{◌≡◌, refl, sym, ap, ◌∙◌}
 use mathlib.Core.List.{List}
 use Prim.Native.Nat.{ℕ}
-use Rattle.modbus.specs.declared.DoneAnswer.{DoneAnswer}
+use Rattle.modbus.specs.declared.ErrorKind.{ErrorKind}
+use Rattle.std.specs.Prelude.{Result, ⊤}
 use Rattle.modbus.proofs.Unique.{Unique, done_paper_law, done_number}
 use Rattle.outgoing.specs.Grow.{Response, grown_paper}
 use Rattle.outgoing.specs.declared.Grown.{Grown}
@@ -24,7 +25,7 @@ pub grown_apart : {U : Type 0} (lasts : List ℕ → U) (x y : Grown) (l m : Lis
 grown_apart lasts x y l m e =
     let p = ap (λ (t : ℕ × Response). t.0) e in
     let q = ap (λ (t : ℕ × Response). t.1.len) e in (
-      ap (λ (a : DoneAnswer). record { answer = a; len = x.len }) (done_number x.answer y.answer p)
+      ap (λ (a : Result ⊤ ErrorKind). record { answer = a; len = x.len }) (done_number x.answer y.answer p)
           ∙ ap (λ (n : ℕ). record { answer = y.answer; len = n }) q,
       ap (λ (t : ℕ × Response). lasts t.1.out) e,
     )

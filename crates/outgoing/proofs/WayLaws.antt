@@ -6,6 +6,7 @@ use Prim.Native.Nat.{ℕ, ◌+◌, ◌-◌, ◌/◌, ◌%◌, ◌≤◌, ◌<◌
 use native.Mathlib.Omega.{arith}
 use lib.ListN.{length, take, drop}
 use lib.Seq.{sets}
+use Rattle.std.specs.Prelude.{Result, Ok, Err, ⊤}
 use Rattle.modbus.specs.Step.{Step, stop, go, ◌>>◌, need, ◌≤?◌}
 use Rattle.modbus.specs.Check.{crc, lrc}
 use Rattle.modbus.specs.Request.{exception}
@@ -14,8 +15,6 @@ use Rattle.modbus.specs.declared.ErrorKind.{ErrorKind}
 use Rattle.modbus.specs.declared.ErrorKind.TheVariants.{OOB, FrameBroken}
 use Rattle.modbus.specs.declared.ModbusProto.{ModbusProto}
 use Rattle.modbus.specs.declared.ModbusProto.TheVariants.{Rtu, Ascii, TcpUdp}
-use Rattle.modbus.specs.declared.DoneAnswer.{DoneAnswer}
-use Rattle.modbus.specs.declared.DoneAnswer.TheVariants as done
 use Rattle.modbus.proofs.StepLaws.{pass, fail, follow, halt, needed, needed_stop}
 use Rattle.modbus.proofs.PaperLaws.{told_same}
 use Rattle.outgoing.specs.Grow.{largest, reached, Response, response, Short, short, growth, grown_paper, add, length_field, most_length, Settable, begun, byte_counted, except, seal}
@@ -53,14 +52,14 @@ reaching_goes : (buf : List ℕ) (start n : ℕ) (g : Response) (m : Step Short 
 reaching_goes buf start n g m h i = pass _ _ _ h ∙ pass _ _ _ i
 
 -- what was answered for these bytes
-module _ (r : DoneAnswer) (buf : List ℕ) (start n : ℕ) (e : done_paper r ≡ told (reached buf start n)) where
-  pub reach_done : r ≡ done.Done → (start + n ≤ largest) × (start + n ≤ length buf)
+module _ (r : Result ⊤ ErrorKind) (buf : List ℕ) (start n : ℕ) (e : done_paper r ≡ told (reached buf start n)) where
+  pub reach_done : r ≡ (Ok tt) → (start + n ≤ largest) × (start + n ≤ length buf)
   unfolding reached
   reach_done q =
       let p = told_same (reached buf start n) (go 0) (sym e ∙ ap done_paper q) in
       needed _ _ _ p λ h p₁. needed _ _ _ p₁ λ i p₂. (h, i)
 
-  pub reach_refused : (k : ErrorKind) → r ≡ done.Refused k → (g : Response) (m : Step Short Response)
+  pub reach_refused : (k : ErrorKind) → r ≡ Err k → (g : Response) (m : Step Short Response)
       → reaching buf start n g m ≡ stop (short k g)
   unfolding reached
   reach_refused k q g m =

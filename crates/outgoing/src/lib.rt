@@ -9,33 +9,33 @@ ghost use Rattle.modbus.specs.declared.ModbusProto.TheVariants as proto;
 ghost use Rattle.outgoing.specs.Grow.{reached, growth, grown_paper, refused_at, response, add, length_field, most_length, settable?, begun, byte_counted, head, echo, except, seal};
 
 use checks::{calc_crc16, calc_lrc};
-use modbus::{ByteAnswer, DoneAnswer, ErrorKind, ModbusProto, SizeAnswer};
+use modbus::{ErrorKind, ModbusProto};
 
 // What a call that adds to a response leaves: its answer, and the response's length.
 #[derive(Clone, Copy)]
 pub struct Grown {
-    pub answer: DoneAnswer,
+    pub answer: Result<(), ErrorKind>,
     pub len: usize,
 }
 
 // Whether the frame has n bytes from the start on.
-pub fn reach(buf: &[u8], start: usize, n: usize) -> DoneAnswer
+pub fn reach(buf: &[u8], start: usize, n: usize) -> Result<(), ErrorKind>
     ensures { done_paper result ≡ told (reached buf.now start n) }
 {
     if usize::MAX - n < start {
-        return DoneAnswer::Refused(ErrorKind::OOB);
+        return Err(ErrorKind::OOB);
     }
     if buf.len() < start + n {
-        return DoneAnswer::Refused(ErrorKind::FrameBroken);
+        return Err(ErrorKind::FrameBroken);
     }
-    DoneAnswer::Done
+    Ok(())
 }
 
 fn short(kind: ErrorKind, len: usize) -> Grown
     ensures { result ≡ refused_at kind len }
 {
     Grown {
-        answer: DoneAnswer::Refused(kind),
+        answer: Err(kind),
         len: len,
     }
 }
@@ -45,9 +45,9 @@ fn extend(out: &mut [u8], len: usize, other: &[u8]) -> Grown
     ensures { grown_paper result out.new ≡ growth (add other.now (response len out.old)) }
 {
     match response::extend(out, len, other) {
-        SizeAnswer::Refused(k) => short(k, len),
-        SizeAnswer::Value(n) => Grown {
-            answer: DoneAnswer::Done,
+        Err(k) => short(k, len),
+        Ok(n) => Grown {
+            answer: Ok(()),
             len: n,
         },
     }
@@ -111,8 +111,8 @@ fn begin(
         return short(ErrorKind::OOB, len);
     }
     match reach(buf, start, n) {
-        DoneAnswer::Refused(k) => short(k, len),
-        DoneAnswer::Done => {
+        Err(k) => short(k, len),
+        Ok(()) => {
             let field = tcp_response_set_data_len(proto, data_len, out, len);
             let end = start + n;
             extend(out, field.len, &buf[start..end])
@@ -134,8 +134,8 @@ pub fn head(
     let b = begin(proto, bytes as usize + 3, buf, start, 2, out, len);
     let answer = b.answer;
     match answer {
-        DoneAnswer::Refused(_) => b,
-        DoneAnswer::Done => byte_count(bytes, out, b.len),
+        Err(_) => b,
+        Ok(()) => byte_count(bytes, out, b.len),
     }
 }
 
@@ -202,7 +202,7 @@ pub fn seal(proto: ModbusProto, out: &mut [u8], len: usize) -> Grown
         ModbusProto::Rtu => add_crc(out, len),
         ModbusProto::Ascii => add_lrc(out, len),
         ModbusProto::TcpUdp => Grown {
-            answer: DoneAnswer::Done,
+            answer: Ok(()),
             len: len,
         },
     }
@@ -228,8 +228,8 @@ fn add_lrc(out: &mut [u8], len: usize) -> Grown
         return short(ErrorKind::OOB, len);
     }
     match calc_lrc(out, len as u8) {
-        ByteAnswer::Refused(k) => short(k, len),
-        ByteAnswer::Value(lrc) => {
+        Err(k) => short(k, len),
+        Ok(lrc) => {
             let byte = [lrc];
             extend(out, len, &byte)
         }

@@ -7,17 +7,14 @@ use Prim.Native.Nat.{ℕ, ◌+◌, ◌-◌, ◌≤◌, ◌<◌}
 use native.Mathlib.Omega.{arith}
 use lib.Dec.{eqb}
 use lib.ListN.{length, get_or, take, drop}
+use Rattle.std.specs.Prelude.{Result, Ok, Err, ⊤}
 use Rattle.modbus.specs.Step.{Step, stop, go, ◌>>=◌, choose, ◌≟◌}
 use Rattle.modbus.specs.Table.{Kind, bit, Tab, target}
 use Rattle.modbus.specs.Ported.{Ported, reads}
 use Rattle.modbus.specs.Storage.{Storage, packed, storage}
-use Rattle.modbus.specs.Paper.{number, told, done_paper, size_paper, digit_of, told_with}
+use Rattle.modbus.specs.Paper.{number, told, done_paper, paper, digit_of, told_with}
 use Rattle.modbus.specs.declared.ErrorKind.{ErrorKind}
 use Rattle.modbus.specs.declared.ErrorKind.TheVariants.{OOB, OOBContext, ReadCallOnWriteFrame}
-use Rattle.modbus.specs.declared.DoneAnswer.{DoneAnswer}
-use Rattle.modbus.specs.declared.DoneAnswer.TheVariants.{Done, Refused}
-use Rattle.modbus.specs.declared.SizeAnswer.{SizeAnswer}
-use Rattle.modbus.specs.declared.SizeAnswer.TheVariants as size
 use Rattle.modbus.proofs.StepLaws.{pass, fail, follow, halt, bound, needed, pick_yes, pick_no}
 use Rattle.modbus.proofs.PaperLaws.{told_same, value_with, refusal_with}
 use Rattle.tables.specs.Calls.{added, changed}
@@ -53,11 +50,11 @@ resumes s r g out x q e = left out q ∙ ap (adding s) e
 
 -- n is the length without five bytes
 pub data_outside : (s t : ModbusFrame) (k : ErrorKind) (n : ℕ) → k ≡ OOBContext → n ≡ s.response_len - 5
-    → t ≡ with_error 2 (grown n s) → done_of t ≡ data_left s (size.Refused k)
+    → t ≡ with_error 2 (grown n s) → done_of t ≡ data_left s (Err k)
 data_outside s t k n e p q = rw (q, p) (sym (pick_yes _ _ _ (ap number e)))
 
 -- k is any other kind
-pub data_refused : (s : ModbusFrame) (k : ErrorKind) → ¬ (k ≡ OOBContext) → refused_of k s ≡ data_left s (size.Refused k)
+pub data_refused : (s : ModbusFrame) (k : ErrorKind) → ¬ (k ≡ OOBContext) → refused_of k s ≡ data_left s (Err k)
 data_refused s k h =
     sym (pick_no _ _ _ (λ (e : number k ≡ number OOBContext).
     let p = told_same (stop k) (stop OOBContext) (ap (λ (n : ℕ). (n, 0)) e) in
@@ -71,10 +68,10 @@ refused_left (yes p) s t k out = refl
 refused_left (no p) s t k out = refl
 
 -- a is what the table call answered, m the slice afterwards
-data_left_law : (s : ModbusFrame) (out m : List ℕ) (a : SizeAnswer) (x : Step ErrorKind (ℕ × List ℕ))
-    → (size_paper a, m) ≡ told_with out x → left_paper (data_left s a) m ≡ data_added s out x
-data_left_law s out m (size.Value n) x e = sym (ap (data_added s out) (value_with out m x n e))
-data_left_law s out m (size.Refused k) x e =
+data_left_law : (s : ModbusFrame) (out m : List ℕ) (a : Result ℕ ErrorKind) (x : Step ErrorKind (ℕ × List ℕ))
+    → (paper a, m) ≡ told_with out x → left_paper (data_left s a) m ≡ data_added s out x
+data_left_law s out m (Ok n) x e = sym (ap (data_added s out) (value_with out m x n e))
+data_left_law s out m (Err k) x e =
     let p = refusal_with out m x k e in
     rw (p.0, p.1) (refused_left (number k ≟ number OOBContext) s _ k out)
 
@@ -88,22 +85,22 @@ module _ (S : Storage) (table : List ℕ) (cells : ℕ) (s : ModbusFrame) (buf o
       ap (cells_added S table cells s)
       (sym p ∙ ap (λ (n : ℕ). head s.proto buf s.frame_start n (response_of s out)) b)
 
-  told_as : (a : DoneAnswer) → g.answer ≡ a
+  told_as : (a : Result ⊤ ErrorKind) → g.answer ≡ a
       → growth (head s.proto buf s.frame_start bytes (response_of s out))
       ≡ ((done_paper a).0, response g.len l)
-  told_as a q = sym e ∙ ap (λ (x : DoneAnswer). ((done_paper x).0, response g.len l)) q
+  told_as a q = sym e ∙ ap (λ (x : Result ⊤ ErrorKind). ((done_paper x).0, response g.len l)) q
 
-  pub read_refused : (k : ErrorKind) → g.answer ≡ Refused k → (r : Left) → r ≡ refused_of k (grown g.len s)
+  pub read_refused : (k : ErrorKind) → g.answer ≡ Err k → (r : Left) → r ≡ refused_of k (grown g.len s)
       → left_paper r l ≡ table_read S table cells s buf out
-  read_refused k q r p = left l p ∙ read_came _ (stopped _ k g.len l (told_as (Refused k) q))
+  read_refused k q r p = left l p ∙ read_came _ (stopped _ k g.len l (told_as (Err k) q))
 
-  pub read_data : g.answer ≡ Done → (a : SizeAnswer) (m : List ℕ)
-      → (size_paper a, m) ≡ told_with l (added S table cells s.reg s.count l g.len)
+  pub read_data : g.answer ≡ (Ok tt) → (a : Result ℕ ErrorKind) (m : List ℕ)
+      → (paper a, m) ≡ told_with l (added S table cells s.reg s.count l g.len)
       → (r : Left) → r ≡ data_left (grown g.len s) a → left_paper r m ≡ table_read S table cells s buf out
   read_data q a m f r p =
       left m p
       ∙ data_left_law (grown g.len s) l m a (added S table cells s.reg s.count l g.len) f
-      ∙ read_came _ (grew _ g.len l (told_as Done q))
+      ∙ read_came _ (grew _ g.len l (told_as (Ok tt) q))
 
 -- ---- a read
 
@@ -120,10 +117,10 @@ module _ (s : ModbusFrame) (buf : List ℕ) (l : Lent) (out : List ℕ) where
 -- ---- a write's response
 
 -- a is what the table call answered, m the table afterwards
-confirms : (s : ModbusFrame) (buf out table m : List ℕ) (a : DoneAnswer) (x : Step ErrorKind (ℕ × List ℕ))
+confirms : (s : ModbusFrame) (buf out table m : List ℕ) (a : Result ⊤ ErrorKind) (x : Step ErrorKind (ℕ × List ℕ))
     → (done_paper a, m) ≡ told_with table x → (confirmed_by s buf out a, m) ≡ confirmed s buf out table x
-confirms s buf out table m Done x e = sym (ap (confirmed s buf out table) (value_with table m x 0 e))
-confirms s buf out table m (Refused k) x e =
+confirms s buf out table m (Ok tt) x e = sym (ap (confirmed s buf out table) (value_with table m x 0 e))
+confirms s buf out table m (Err k) x e =
     let p = refusal_with table m x k e in
     rw (p.0, p.1) refl
 
@@ -140,15 +137,15 @@ pub coil_set : (table : List ℕ) (cells reg v : ℕ) → Legal bit v
 coil_set table cells reg v h = ap (λ (n : ℕ). told_with table (changed packed table cells reg n)) (coil_value v h)
 
 -- r is what the code answered for the frame's bytes
-module _ (k : Kind) (table : List ℕ) (cells : ℕ) (s : ModbusFrame) (buf out : List ℕ) (r : DoneAnswer)
+module _ (k : Kind) (table : List ℕ) (cells : ℕ) (s : ModbusFrame) (buf out : List ℕ) (r : Result ⊤ ErrorKind)
     (e : done_paper r ≡ told (reached buf s.frame_start 6)) where
-  pub one_unread : (j : ErrorKind) → r ≡ Refused j → (a : Left) → a ≡ refused_of j s
+  pub one_unread : (j : ErrorKind) → r ≡ Err j → (a : Left) → a ≡ refused_of j s
       → (left_paper a out, table) ≡ one_written k table cells s buf out
   unfolding one_written
   one_unread j q a p =
       ap (λ (x : After). (x, table)) (left out p) ∙ sym (ap (ended_with table) (check_refused _ _ _ _ r e j q))
 
-  module _ (q : r ≡ Done) where
+  module _ (q : r ≡ (Ok tt)) where
     pub one_illegal : ¬ Legal k (second_word s buf) → (a : Left) (t : ModbusFrame) → t ≡ with_error 3 s → a ≡ done_of t
         → (left_paper a out, table) ≡ one_written k table cells s buf out
     unfolding one_written
@@ -157,7 +154,7 @@ module _ (k : Kind) (table : List ℕ) (cells : ℕ) (s : ModbusFrame) (buf out 
         ∙ sym (ap (ended_with table) (check_done _ _ _ _ r e q ∙ fail _ _ _ h))
 
     -- v is the value as the code gives it, a its answer and m the table afterwards
-    pub one_done : Legal k (second_word s buf) → (v : ℕ) → v ≡ value_of k (second_word s buf) → (a : DoneAnswer) (m : List ℕ)
+    pub one_done : Legal k (second_word s buf) → (v : ℕ) → v ≡ value_of k (second_word s buf) → (a : Result ⊤ ErrorKind) (m : List ℕ)
         → (done_paper a, m) ≡ told_with table (changed (storage (target k)) table cells s.reg v)
         → (x : After) → x ≡ confirmed_by s buf out a → (x, m) ≡ one_written k table cells s buf out
     unfolding one_written
@@ -170,36 +167,36 @@ module _ (k : Kind) (table : List ℕ) (cells : ℕ) (s : ModbusFrame) (buf out 
 -- ---- a write of many
 
 -- r is what the code answered for the frame's bytes
-module _ (buf : List ℕ) (start : ℕ) (r : DoneAnswer) (e : done_paper r ≡ told (reached buf start 7)) where
-  pub held_unread : (k : ErrorKind) → r ≡ Refused k → data_held buf start ≡ stop k
+module _ (buf : List ℕ) (start : ℕ) (r : Result ⊤ ErrorKind) (e : done_paper r ≡ told (reached buf start 7)) where
+  pub held_unread : (k : ErrorKind) → r ≡ Err k → data_held buf start ≡ stop k
   unfolding data_held
   held_unread k q = halt _ _ (told_same _ (stop k) (sym e ∙ ap done_paper q))
 
-  pub held_behind : r ≡ Done → data_held buf start ≡ data_behind buf start
+  pub held_behind : r ≡ (Ok tt) → data_held buf start ≡ data_behind buf start
   unfolding data_held
   held_behind q = follow _ _ (told_same _ (go 0) (sym e ∙ ap done_paper q))
 
 -- r is what the code answered for the data bytes
-pub held : (buf : List ℕ) (start : ℕ) (r : SizeAnswer) (n : ℕ) → size_paper r ≡ told (data_held buf start)
-    → r ≡ size.Value n → start + 7 + n ≤ length buf
+pub held : (buf : List ℕ) (start : ℕ) (r : Result ℕ ErrorKind) (n : ℕ) → paper r ≡ told (data_held buf start)
+    → r ≡ Ok n → start + 7 + n ≤ length buf
 unfolding data_held
 held buf start r n e q =
-    let p = told_same (data_held buf start) (go n) (sym e ∙ ap size_paper q) in
+    let p = told_same (data_held buf start) (go n) (sym e ∙ ap paper q) in
     bound _ _ p λ a p₁ e₁. needed _ _ _ e₁ λ h e₂.
     let z : get_or buf (start + 6) 0 ≡ n = cc in
     omega arith
 
-module _ (k : Kind) (table : List ℕ) (cells : ℕ) (s : ModbusFrame) (buf out : List ℕ) (r : SizeAnswer)
-    (e : size_paper r ≡ told (data_held buf s.frame_start)) where
-  pub many_unheld : (j : ErrorKind) → r ≡ size.Refused j → (a : Left) → a ≡ refused_of j s
+module _ (k : Kind) (table : List ℕ) (cells : ℕ) (s : ModbusFrame) (buf out : List ℕ) (r : Result ℕ ErrorKind)
+    (e : paper r ≡ told (data_held buf s.frame_start)) where
+  pub many_unheld : (j : ErrorKind) → r ≡ Err j → (a : Left) → a ≡ refused_of j s
       → (left_paper a out, table) ≡ many_written k table cells s buf out
   unfolding many_written
   many_unheld j q a p =
       ap (λ (x : After). (x, table)) (left out p)
-      ∙ sym (ap (ended_with table) (leave _ _ _ _ (told_same _ (stop j) (sym e ∙ ap size_paper q))))
+      ∙ sym (ap (ended_with table) (leave _ _ _ _ (told_same _ (stop j) (sym e ∙ ap paper q))))
 
   -- the data as the code names it; a is its answer and m the table afterwards
-  pub many_done : (n : ℕ) → r ≡ size.Value n → (a : DoneAnswer) (m : List ℕ)
+  pub many_done : (n : ℕ) → r ≡ Ok n → (a : Result ⊤ ErrorKind) (m : List ℕ)
       → (done_paper a, m) ≡ told_with table (stored_many k table cells s
       (take ((s.frame_start + 7 + n) - (s.frame_start + 7)) (drop (s.frame_start + 7) buf)))
       → (x : After) → x ≡ confirmed_by s buf out a → (x, m) ≡ many_written k table cells s buf out
@@ -208,7 +205,7 @@ module _ (k : Kind) (table : List ℕ) (cells : ℕ) (s : ModbusFrame) (buf out 
       let z : (s.frame_start + 7 + n) - (s.frame_start + 7) ≡ n = omega arith in
       ap (λ (y : After). (y, m)) p
       ∙ confirms s buf out table m a (stored_many k table cells s (take n (drop (s.frame_start + 7) buf))) (rw z at f)
-      ∙ sym (ap (ended_with table) (stay _ _ _ _ (told_same _ (go n) (sym e ∙ ap size_paper q))))
+      ∙ sym (ap (ended_with table) (stay _ _ _ _ (told_same _ (go n) (sym e ∙ ap paper q))))
 
 -- ---- a write
 
@@ -257,14 +254,14 @@ module _ (s : ModbusFrame) (out : List ℕ) (r : Left) (g : Grown) (l : List ℕ
     excepting_is : (excepted s.error s (response_of s out) >>= seal s.proto) ≡ (excepting >>= seal s.proto)
     excepting_is = ap (λ (x : ModbusError). excepted x s (response_of s out) >>= seal s.proto) q
 
-    pub final_refused : (k : ErrorKind) → g.answer ≡ Refused k → grown_paper g l ≡ growth excepting
+    pub final_refused : (k : ErrorKind) → g.answer ≡ Err k → grown_paper g l ≡ growth excepting
         → left_paper r l ≡ finalized s out
     unfolding finalized
     final_refused k a e =
         resumes s r g l _ p (ends_there _ (seal s.proto) g l k e a ∙ ap growth (sym excepting_is))
 
     -- x is what was answered for it, m the slice then
-    pub final_sealed : (x : Grown) (m : List ℕ) → x.answer ≡ Done → grown_paper x m ≡ growth excepting
+    pub final_sealed : (x : Grown) (m : List ℕ) → x.answer ≡ (Ok tt) → grown_paper x m ≡ growth excepting
         → grown_paper g l ≡ growth (seal s.proto (response x.len m)) → left_paper r l ≡ finalized s out
     unfolding finalized
     final_sealed x m a e f =

@@ -3,7 +3,7 @@
 use mathlib.Core.Path.{◌≡◌, refl, sym, ap, ◌∙◌}
 use mathlib.Core.List.{List}
 use Prim.Native.Nat.{ℕ}
-use Rattle.modbus.proofs.Unique.{Unique, size_paper_law}
+use Rattle.modbus.proofs.Unique.{Unique, paper_law}
 use Rattle.frame.specs.State.{left_paper}
 use Rattle.process.specs.Process.{Wrote, wrote}
 use Rattle.frame.specs.declared.Left.{Left}
@@ -82,4 +82,4 @@ pub illegal : Unique 0 illegal-kinds.ps illegal-kinds.r illegal-reads.Post
 illegal κs a x y u v p q = (p ∙ sym q, refl)
 
 pub data_behind : Unique 1 data-behind-kinds.ps data-behind-kinds.r data-behind-reads.Post
-data_behind κs a x y u v p q = (size_paper_law x y (p ∙ sym q), refl)
+data_behind κs a x y u v p q = (paper_law x y (p ∙ sym q), refl)

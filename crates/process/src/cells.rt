@@ -1,12 +1,12 @@
 // Bits and words: what a request's cells are.
 ghost use Rattle.std.specs.Prelude.{true, false, ◌≡◌, ◌+◌, ◌≤◌, length};
-ghost use Rattle.modbus.specs.Paper.{told, size_paper};
+ghost use Rattle.modbus.specs.Paper.{told, paper};
 ghost use Rattle.modbus.specs.Step.{choose};
 ghost use Rattle.modbus.specs.Table.{bit};
 ghost use Rattle.process.specs.Process.{data_bytes, legal?, data_behind};
 ghost use Rattle.process.specs.Cells.{kind_in};
 
-use modbus::{ErrorKind, SizeAnswer};
+use modbus::ErrorKind;
 
 #[derive(Clone, Copy)]
 pub enum Cells {
@@ -58,18 +58,18 @@ fn neither(value: u16) -> bool
 }
 
 // How many data bytes a write of many has behind its first seven, if the frame holds them.
-pub fn data_behind(buf: &[u8], start: usize) -> SizeAnswer
-    ensures { size_paper result ≡ told (data_behind buf.now start) }
+pub fn data_behind(buf: &[u8], start: usize) -> Result<usize, ErrorKind>
+    ensures { paper result ≡ told (data_behind buf.now start) }
 {
     if buf.len() < start {
-        return SizeAnswer::Refused(ErrorKind::FrameBroken);
+        return Err(ErrorKind::FrameBroken);
     }
     if buf.len() - start < 7 {
-        return SizeAnswer::Refused(ErrorKind::FrameBroken);
+        return Err(ErrorKind::FrameBroken);
     }
     let bytes = buf[start + 6] as usize;
     if buf.len() - start - 7 < bytes {
-        return SizeAnswer::Refused(ErrorKind::FrameBroken);
+        return Err(ErrorKind::FrameBroken);
     }
-    SizeAnswer::Value(bytes)
+    Ok(bytes)
 }

@@ -14,7 +14,7 @@ ghost use Rattle.process.specs.Process.{read_processed, wrote, write_processed, 
 use added::resume;
 use cells::Cells;
 use frame::{Left, ModbusError, ModbusFrame, ModbusFunction};
-use modbus::{DoneAnswer, ErrorKind};
+use modbus::ErrorKind;
 use reads::{Table, read};
 use writes::{write_many, write_one};
 
@@ -134,8 +134,8 @@ pub fn finalize_response(frame: ModbusFrame, response: &mut [u8]) -> Left
             );
             let answer = e.answer;
             match answer {
-                DoneAnswer::Refused(_) => resume(frame, e),
-                DoneAnswer::Done => resume(frame, outgoing::seal(proto, response, e.len)),
+                Err(_) => resume(frame, e),
+                Ok(()) => resume(frame, outgoing::seal(proto, response, e.len)),
             }
         }
     }

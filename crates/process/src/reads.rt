@@ -1,6 +1,6 @@
 // A read carried out on one lent table.
 ghost use Rattle.std.specs.Prelude.{◌≡◌, ◌-◌};
-ghost use Rattle.modbus.specs.Paper.{size_paper, told_with};
+ghost use Rattle.modbus.specs.Paper.{paper, told_with};
 ghost use Rattle.modbus.specs.Storage.{storage};
 ghost use Rattle.tables.specs.Calls.{added};
 ghost use Rattle.frame.specs.State.{left_paper};
@@ -11,7 +11,7 @@ ghost use Rattle.process.specs.Resumed.{data_left};
 use crate::added::add_head;
 use crate::cells::{Cells, data_bytes};
 use frame::{Left, ModbusFrame};
-use modbus::{DoneAnswer, ErrorKind, SizeAnswer};
+use modbus::ErrorKind;
 use tables::coils::{get_coils_as_u8, get_discretes_as_u8};
 use tables::registers::{get_holdings_as_u8, get_inputs_as_u8};
 
@@ -39,8 +39,8 @@ pub(crate) fn read(
     s.response_len = h.len;
     let answer = h.answer;
     match answer {
-        DoneAnswer::Refused(k) => s.refused(k),
-        DoneAnswer::Done => add_data(
+        Err(k) => s.refused(k),
+        Ok(()) => add_data(
             s,
             get_cells(t, table, cells, s.reg, s.count, response, s.response_len),
         ),
@@ -66,8 +66,8 @@ fn get_cells(
     count: u16,
     response: &mut [u8],
     len: usize,
-) -> SizeAnswer
-    ensures { (size_paper result, response.new) ≡ told_with response.old
+) -> Result<usize, ErrorKind>
+    ensures { (paper result, response.new) ≡ told_with response.old
         (added (storage (tab_by t)) table.now cells reg count response.old len) }
 {
     match t {
@@ -79,16 +79,16 @@ fn get_cells(
 }
 
 // What the table call that added a read's data answered; cells outside the table are an exception's matter.
-fn add_data(frame: ModbusFrame, answer: SizeAnswer) -> Left
+fn add_data(frame: ModbusFrame, answer: Result<usize, ErrorKind>) -> Left
     ensures { result ≡ data_left frame answer }
 {
     match answer {
-        SizeAnswer::Value(n) => {
+        Ok(n) => {
             let mut s = frame;
             s.response_len = n;
             s.done()
         }
-        SizeAnswer::Refused(k) => {
+        Err(k) => {
             if let ErrorKind::OOBContext = k {
                 let mut s = frame;
                 s.response_len = without_five(frame.response_len);

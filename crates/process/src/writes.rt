@@ -1,6 +1,6 @@
 // A write carried out on one lent table.
 ghost use Rattle.std.specs.Prelude.{◌≡◌};
-ghost use Rattle.modbus.specs.Paper.{told, done_paper, size_paper, told_with};
+ghost use Rattle.modbus.specs.Paper.{told, done_paper, paper, told_with};
 ghost use Rattle.modbus.specs.Table.{target};
 ghost use Rattle.modbus.specs.Storage.{storage};
 ghost use Rattle.tables.specs.Calls.{changed};
@@ -12,7 +12,7 @@ ghost use Rattle.process.specs.Resumed.{confirmed_by};
 use crate::added::add_echo;
 use crate::cells::{Cells, data_behind, illegal};
 use frame::{Left, ModbusFrame};
-use modbus::{DoneAnswer, SizeAnswer};
+
 use octets::word;
 use outgoing::reach;
 use tables::coils::{set_coil, set_coils_from_u8};
@@ -31,8 +31,8 @@ pub(crate) fn write_one(
 {
     let start = frame.frame_start;
     match reach(buf, start, 6) {
-        DoneAnswer::Refused(k) => frame.refused(k),
-        DoneAnswer::Done => {
+        Err(k) => frame.refused(k),
+        Ok(()) => {
             let value = word(buf, start + 4);
             if illegal(of, value) {
                 return frame.with_error(3).done();
@@ -47,7 +47,7 @@ pub(crate) fn write_one(
     }
 }
 
-fn set_one(of: Cells, table: &mut [u8], cells: usize, reg: u16, value: u16) -> DoneAnswer
+fn set_one(of: Cells, table: &mut [u8], cells: usize, reg: u16, value: u16) -> Result<(), ErrorKind>
     requires { Legal (kind_in of) value }
     ensures { (done_paper result, table.new) ≡ told_with table.old
         (changed (storage (target (kind_in of))) table.old cells reg (value_of (kind_in of) value)) }
@@ -70,8 +70,8 @@ pub(crate) fn write_many(
         many_written (kind_in of) table.old cells frame buf.now response.old }
 {
     match data_held(buf, frame.frame_start) {
-        SizeAnswer::Refused(k) => frame.refused(k),
-        SizeAnswer::Value(n) => {
+        Err(k) => frame.refused(k),
+        Ok(n) => {
             let from = frame.frame_start + 7;
             let end = from + n;
             confirm(
@@ -90,7 +90,7 @@ fn set_many(
     table: &mut [u8],
     cells: usize,
     values: &[u8],
-) -> DoneAnswer
+) -> Result<(), ErrorKind>
     ensures { (done_paper result, table.new) ≡ told_with table.old
         (stored_many (kind_in of) table.old cells frame values.now) }
 {
@@ -101,22 +101,22 @@ fn set_many(
 }
 
 // The response to a write that a table call did or refused.
-fn confirm(frame: ModbusFrame, answer: DoneAnswer, buf: &[u8], response: &mut [u8]) -> Left
+fn confirm(frame: ModbusFrame, answer: Result<(), ErrorKind>, buf: &[u8], response: &mut [u8]) -> Left
     ensures { left_paper result response.new ≡
         confirmed_by frame buf.now response.old answer }
 {
     match answer {
-        DoneAnswer::Refused(_) => frame.with_error(2).done(),
-        DoneAnswer::Done => add_echo(frame, buf, response),
+        Err(_) => frame.with_error(2).done(),
+        Ok(()) => add_echo(frame, buf, response),
     }
 }
 
 // How many data bytes a write of many has, if the frame holds it.
-fn data_held(buf: &[u8], start: usize) -> SizeAnswer
-    ensures { size_paper result ≡ told (data_held buf.now start) }
+fn data_held(buf: &[u8], start: usize) -> Result<usize, ErrorKind>
+    ensures { paper result ≡ told (data_held buf.now start) }
 {
     match reach(buf, start, 7) {
-        DoneAnswer::Refused(k) => SizeAnswer::Refused(k),
-        DoneAnswer::Done => data_behind(buf, start),
+        Err(k) => Err(k),
+        Ok(()) => data_behind(buf, start),
     }
 }

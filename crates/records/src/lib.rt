@@ -8,7 +8,6 @@ ghost use Rattle.std.specs.Prelude.{◌≡◌, ◌≤◌, true, false, length};
 ghost use Rattle.modbus.specs.Step.{choose, ◌≟◌};
 ghost use Rattle.records.specs.Counted.{opening, tallied};
 
-use modbus::ByteAnswer;
 use std::io::{Read, Stdin, Stdout, Write};
 
 // Where the reading stands: in the text that was read last, and in the line.
@@ -78,7 +77,7 @@ fn digit(record: &mut [u8], s: Reading, c: u8) -> Reading
     let mut t = s;
     t.broken = true;
     let value = checks::digit_under(c, 0);
-    let ByteAnswer::Value(v) = value else {
+    let Ok(v) = value else {
         return t;
     };
     let len = s.len;

@@ -2,7 +2,7 @@
 // says. No Rust is needed for it.
 #![tactic(auto)]
 
-use modbus::{Answer, ProtoAnswer};
+use modbus::Answer;
 use records::Tally;
 use std::io::{Stdin, Stdout};
 
@@ -13,13 +13,13 @@ const HEAD: usize = 11;
 fn guess(call: u8, input: &[u8], proto: u8) -> Answer {
     let transport = modbus::proto_of(proto);
     match transport {
-        ProtoAnswer::Value(p) => {
+        Ok(p) => {
             if call == 7 {
-                return modbus::byte_answer(lengths::guess_request_frame_len(input, p, 0));
+                return Answer::from(lengths::guess_request_frame_len(input, p, 0));
             }
-            modbus::byte_answer(lengths::guess_response_frame_len(input, p, 0))
+            Answer::from(lengths::guess_response_frame_len(input, p, 0))
         }
-        ProtoAnswer::BadSetup => Answer { value: 0, kind: 10 },
+        Err(BadSetup) => Answer { value: 0, kind: 10 },
     }
 }
 
@@ -30,11 +30,11 @@ fn answer(call: u8, small: u8, size: usize, input: &[u8], lent: &mut [u8]) -> An
             value: checks::calc_crc16(input, small) as usize,
             kind: 0,
         },
-        2 => modbus::byte_answer(checks::calc_lrc(input, small)),
-        3 => modbus::byte_answer(checks::digit_under(small, 0)),
-        4 => modbus::byte_answer(checks::hex_to_chr(small)),
-        5 => modbus::byte_answer(ascii::parse_ascii_frame(input, size, lent, small, 0)),
-        6 => modbus::size_answer(ascii::generate_ascii_frame(input, lent)),
+        2 => Answer::from(checks::calc_lrc(input, small)),
+        3 => Answer::from(checks::digit_under(small, 0)),
+        4 => Answer::from(checks::hex_to_chr(small)),
+        5 => Answer::from(ascii::parse_ascii_frame(input, size, lent, small, 0)),
+        6 => Answer::from(ascii::generate_ascii_frame(input, lent)),
         _ => guess(call, input, small),
     }
 }

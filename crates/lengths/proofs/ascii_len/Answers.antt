@@ -7,14 +7,14 @@ use Rattle.modbus.proofs.HexLaws.{length_spelt}
 use Rattle.lengths.proofs.GuessLaws.{ascii_told, ascii_halt}
 use Rattle.lengths.proofs.ascii_len.Goals as goal
 
-pub returns-in-Value : goal.returns-in-Value
-returns-in-Value c =
-    let e = rw c.in-Value.is at c.parse_text-parsed.ensures in
+pub returns-in-Ok : goal.returns-in-Ok
+returns-in-Ok c =
+    let e = rw c.in-Ok.is at c.parse_text-parsed.ensures in
     let a = c.args in
     c.serial_len.ensures ∙ sym (ap told (ascii_told _ _ _ (length_spelt a.hex a.text.now) _ _ e (omega arith)))
 
-pub returns-in-Refused : goal.returns-in-Refused
-returns-in-Refused c =
-    let e = rw c.in-Refused.is at c.parse_text-parsed.ensures in
+pub returns-in-Err : goal.returns-in-Err
+returns-in-Err c =
+    let e = rw c.in-Err.is at c.parse_text-parsed.ensures in
     let a = c.args in
-    sym (ap told (ascii_halt _ _ _ (length_spelt a.hex a.text.now) _ c.in-Refused.k e))
+    sym (ap told (ascii_halt _ _ _ (length_spelt a.hex a.text.now) _ c.in-Err.k e))

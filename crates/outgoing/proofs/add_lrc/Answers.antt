@@ -11,13 +11,13 @@ pub returns-then-len-gt255 : goal.returns-then-len-gt255
 returns-then-len-gt255 c =
     rw c.short.ensures (sym (ap growth (lrc_over _ _ (omega arith) (omega arith))))
 
-pub returns-in-Refused : goal.returns-in-Refused
-returns-in-Refused c =
+pub returns-in-Err : goal.returns-in-Err
+returns-in-Err c =
     let a = c.args in
-    absurd (lrc_never _ a.out.now a.len (omega arith) c.calc_lrc.ensures _ c.in-Refused.is)
+    absurd (lrc_never _ a.out.now a.len (omega arith) c.calc_lrc.ensures _ c.in-Err.is)
 
-pub returns-in-Value : goal.returns-in-Value
-returns-in-Value c =
+pub returns-in-Ok : goal.returns-in-Ok
+returns-in-Ok c =
     let a = c.args in
-    let v = lrc_value _ a.out.now a.len (omega arith) c.calc_lrc.ensures _ c.in-Value.is in
+    let v = lrc_value _ a.out.now a.len (omega arith) c.calc_lrc.ensures _ c.in-Ok.is in
     c.extend.ensures ∙ sym (ap growth (lrc_adds a.len a.out.now (omega arith) (omega arith) _ v))

@@ -18,24 +18,24 @@ tcp_response_set_data_len-field-requires c =
 
 pub overflow_add-end : goal.overflow_add-end
 overflow_add-end c =
-    let h = reach_done _ _ _ _ c.reach.ensures c.in-Done.is in
+    let h = reach_done _ _ _ _ c.reach.ensures c.in-Ok.is in
     omega arith
 
 pub slice_bounds-extend-end : goal.slice_bounds-extend-end
 slice_bounds-extend-end c =
-    let h = reach_done _ _ _ _ c.reach.ensures c.in-Done.is in
+    let h = reach_done _ _ _ _ c.reach.ensures c.in-Ok.is in
     omega arith
 
-pub returns-in-Refused : goal.returns-in-Refused
-returns-in-Refused c =
+pub returns-in-Err : goal.returns-in-Err
+returns-in-Err c =
     let h = test_passes _ _ c.unsettable.ensures c.if-unsettable.false in
-    let u = reach_refused _ _ _ _ c.reach.ensures _ c.in-Refused.is _ in
-    rw c.short-in-Refused.ensures (sym (ap growth (begun_unread _ _ _ _ _ _ _ h _ u)))
+    let u = reach_refused _ _ _ _ c.reach.ensures _ c.in-Err.is _ in
+    rw c.short-in-Err.ensures (sym (ap growth (begun_unread _ _ _ _ _ _ _ h _ u)))
 
-pub returns-in-Done : goal.returns-in-Done
-returns-in-Done c =
+pub returns-in-Ok : goal.returns-in-Ok
+returns-in-Ok c =
     let h = test_passes _ _ c.unsettable.ensures c.if-unsettable.false in
-    let d = reach_done _ _ _ _ c.reach.ensures c.in-Done.is in
+    let d = reach_done _ _ _ _ c.reach.ensures c.in-Ok.is in
     c.extend.ensures
     ∙ sym (ap growth (begun_on _ _ _ _ _ _ _ h d.0 d.1 c.tcp_response_set_data_len-field.result _
     c.tcp_response_set_data_len-field.ensures))

@@ -5,12 +5,12 @@ use Rattle.outgoing.specs.Grow.{growth, byte_counted}
 use Rattle.outgoing.proofs.GrowLaws.{goes_on, ends_there}
 use Rattle.outgoing.proofs.head.Goals as goal
 
-pub returns-in-Refused : goal.returns-in-Refused
-returns-in-Refused c =
-    ends_there _ (byte_counted c.args.bytes) c.begin-b.result _ _ c.begin-b.ensures c.in-Refused.is
+pub returns-in-Err : goal.returns-in-Err
+returns-in-Err c =
+    ends_there _ (byte_counted c.args.bytes) c.begin-b.result _ _ c.begin-b.ensures c.in-Err.is
 
-pub returns-in-Done : goal.returns-in-Done
-returns-in-Done c =
+pub returns-in-Ok : goal.returns-in-Ok
+returns-in-Ok c =
     c.byte_count.ensures
     ∙ sym (ap growth (goes_on _ (byte_counted c.args.bytes) c.begin-b.result _ c.begin-b.ensures
-    c.in-Done.is))
+    c.in-Ok.is))

@@ -7,13 +7,13 @@ pub returns-in-Unset : goal.returns-in-Unset
 returns-in-Unset c =
     final_plain _ _ _ _ _ c.resume.ensures c.in-Unset.is c.seal.ensures
 
-pub returns-in-Refused : goal.returns-in-Refused
-returns-in-Refused c =
+pub returns-in-Err : goal.returns-in-Err
+returns-in-Err c =
     let x = c.in-Code.is in
-    final_refused _ _ _ _ _ c.resume-in-Refused.ensures _ x _ c.in-Refused.is c.except-e.ensures
+    final_refused _ _ _ _ _ c.resume-in-Err.ensures _ x _ c.in-Err.is c.except-e.ensures
 
-pub returns-in-Done : goal.returns-in-Done
-returns-in-Done c =
+pub returns-in-Ok : goal.returns-in-Ok
+returns-in-Ok c =
     let x = c.in-Code.is in
-    let y = c.in-Done.is in
-    final_sealed _ _ _ _ _ c.resume-in-Done.ensures _ x _ _ y c.except-e.ensures c.seal-in-Done.ensures
+    let y = c.in-Ok.is in
+    final_sealed _ _ _ _ _ c.resume-in-Ok.ensures _ x _ _ y c.except-e.ensures c.seal-in-Ok.ensures

@@ -4,9 +4,9 @@ use mathlib.Core.Path.{sym, ◌∙◌}
 use Rattle.external.proofs.ReadLaws.{roomed_on}
 use Rattle.external.proofs.reads.make_room.Goals as goal
 
-pub returns-in-Done : goal.returns-in-Done
-returns-in-Done c =
+pub returns-in-Ok : goal.returns-in-Ok
+returns-in-Ok c =
     let a = c.args in
     c.add_room.ensures
     ∙ sym (roomed_on _ a.frame a.buf.now a.response.now _ _ c.add_head-h.ensures
-    c.in-Done.is)
+    c.in-Ok.is)

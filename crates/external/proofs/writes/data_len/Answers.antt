@@ -5,10 +5,10 @@ use Rattle.modbus.specs.Paper.{told}
 use Rattle.external.proofs.WriteLaws.{length_refused, length_behind}
 use Rattle.external.proofs.writes.data_len.Goals as goal
 
-pub returns-in-Refused : goal.returns-in-Refused
-returns-in-Refused c = sym (ap told (length_refused _ _ _ c.index.ensures _ c.in-Refused.is))
+pub returns-in-Err : goal.returns-in-Err
+returns-in-Err c = sym (ap told (length_refused _ _ _ c.index.ensures _ c.in-Err.is))
 
-pub returns-in-Done : goal.returns-in-Done
-returns-in-Done c =
+pub returns-in-Ok : goal.returns-in-Ok
+returns-in-Ok c =
     c.data_behind.ensures
-    ∙ sym (ap told (length_behind _ _ _ c.index.ensures c.in-Done.is))
+    ∙ sym (ap told (length_behind _ _ _ c.index.ensures c.in-Ok.is))

@@ -7,16 +7,16 @@ use Rattle.external.proofs.writes.want_holding.Goals as goal
 
 pub overflow_add-start : goal.overflow_add-start
 overflow_add-start c =
-    let h = index_done _ _ _ _ _ c.index.ensures c.in-Done.is in
+    let h = index_done _ _ _ _ _ c.index.ensures c.in-Ok.is in
     omega arith
 
-pub returns-in-Refused : goal.returns-in-Refused
-returns-in-Refused c out =
+pub returns-in-Err : goal.returns-in-Err
+returns-in-Err c out =
     of_write out c.write_left.ensures
     ∙ sym (holding_refused _ _ out _ c.index.ensures _
-    c.in-Refused.is)
+    c.in-Err.is)
 
-pub returns-in-Done : goal.returns-in-Done
-returns-in-Done c out =
-    of_write out c.write_left-in-Done.ensures
-    ∙ sym (holding_wanted _ _ out _ c.index.ensures c.in-Done.is _ c.write_of-write.ensures)
+pub returns-in-Ok : goal.returns-in-Ok
+returns-in-Ok c out =
+    of_write out c.write_left-in-Ok.ensures
+    ∙ sym (holding_wanted _ _ out _ c.index.ensures c.in-Ok.is _ c.write_of-write.ensures)

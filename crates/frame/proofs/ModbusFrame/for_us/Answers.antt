@@ -12,19 +12,19 @@ returns-then-not-copies_header c =
     c.name.ensures a.response.now
     ∙ sym (us_bare a.broadcast a.self a.buf.now a.response.now e c.requires.2)
 
-pub returns-in-Refused : goal.returns-in-Refused
-returns-in-Refused c =
+pub returns-in-Err : goal.returns-in-Err
+returns-in-Err c =
     let a = c.args in
     let e = sym c.copies_header.ensures ∙ c.if-not-copies_header.false in
     let x = c.extend.ensures in
     left _ c.refused.ensures
-    ∙ sym (us_full a.broadcast a.self a.buf.now a.response.now e _ _ x _ c.in-Refused.is)
+    ∙ sym (us_full a.broadcast a.self a.buf.now a.response.now e _ _ x _ c.in-Err.is)
 
-pub returns-in-Value : goal.returns-in-Value
-returns-in-Value c =
+pub returns-in-Ok : goal.returns-in-Ok
+returns-in-Ok c =
     let a = c.args in
     let e = sym c.copies_header.ensures ∙ c.if-not-copies_header.false in
     let x = c.extend.ensures in
-    c.name-in-Value.ensures _
+    c.name-in-Ok.ensures _
     ∙ sym (us_headed a.broadcast a.self a.buf.now a.response.now e _ _ x _
-    c.in-Value.is)
+    c.in-Ok.is)

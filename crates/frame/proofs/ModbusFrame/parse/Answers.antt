@@ -15,19 +15,19 @@ returns-then-response-self c =
 pub address-requires : goal.address-requires
 address-requires c =
     let a = c.args in
-    (parse_headed a.self a.buf.now _ c.frame_start.ensures _ c.in-Value.is, omega arith)
+    (parse_headed a.self a.buf.now _ c.frame_start.ensures _ c.in-Ok.is, omega arith)
 
-pub returns-in-Refused : goal.returns-in-Refused
-returns-in-Refused c =
+pub returns-in-Err : goal.returns-in-Err
+returns-in-Err c =
     let a = c.args in
     let e = c.frame_start.ensures in
-    left _ c.refused-in-Refused.ensures
+    left _ c.refused-in-Err.ensures
     ∙ sym (parse_broken a.self a.buf.now _ e a.list.now a.response.now (omega arith) _
-    c.in-Refused.is)
+    c.in-Err.is)
 
-pub returns-in-Value : goal.returns-in-Value
-returns-in-Value c =
+pub returns-in-Ok : goal.returns-in-Ok
+returns-in-Ok c =
     let a = c.args in
     let e = c.frame_start.ensures in
     c.address.ensures
-    ∙ sym (parse_begun a.self a.buf.now _ e a.list.now a.response.now (omega arith) _ c.in-Value.is)
+    ∙ sym (parse_begun a.self a.buf.now _ e a.list.now a.response.now (omega arith) _ c.in-Ok.is)

@@ -22,16 +22,16 @@ returns-then-overflows c out =
     ∙ sym (many_overflows a.most a.broadcast a.given a.self a.buf.now out (omega arith) _ refl _
     c.overflows.ensures c.if-overflows.true)
 
-pub returns-in-Refused : goal.returns-in-Refused
-returns-in-Refused c out =
+pub returns-in-Err : goal.returns-in-Err
+returns-in-Err c out =
     let a = c.args in
-    left out c.refused-in-Refused.ensures
+    left out c.refused-in-Err.ensures
     ∙ sym (many_refused a.most a.broadcast a.given a.self a.buf.now out (omega arith) _ refl _
-    c.overflows.ensures c.if-overflows.false _ (c.check_frame_crc.ensures ∙ ap told (frame_counted _ _ _ _ (test_passes _ _ c.overflows.ensures c.if-overflows.false))) _ c.in-Refused.is)
+    c.overflows.ensures c.if-overflows.false _ (c.check_frame_crc.ensures ∙ ap told (frame_counted _ _ _ _ (test_passes _ _ c.overflows.ensures c.if-overflows.false))) _ c.in-Err.is)
 
-pub returns-in-Done : goal.returns-in-Done
-returns-in-Done c out =
+pub returns-in-Ok : goal.returns-in-Ok
+returns-in-Ok c out =
     let a = c.args in
     c.accept_many.ensures out
     ∙ sym (many_checked a.most a.broadcast a.given a.self a.buf.now out (omega arith) _ refl _
-    c.overflows.ensures c.if-overflows.false _ (c.check_frame_crc.ensures ∙ ap told (frame_counted _ _ _ _ (test_passes _ _ c.overflows.ensures c.if-overflows.false))) c.in-Done.is)
+    c.overflows.ensures c.if-overflows.false _ (c.check_frame_crc.ensures ∙ ap told (frame_counted _ _ _ _ (test_passes _ _ c.overflows.ensures c.if-overflows.false))) c.in-Ok.is)

@@ -13,17 +13,17 @@ returns-then-buf-start-lt4 c out =
     let a = c.args in
     left out c.refused.ensures ∙ sym (one_short a.broadcast a.self a.buf.now out (omega arith))
 
-pub returns-in-Refused : goal.returns-in-Refused
-returns-in-Refused c out =
+pub returns-in-Err : goal.returns-in-Err
+returns-in-Err c out =
     let a = c.args in
     let e = c.check_frame_crc.ensures ∙ ap told (frame_byte _ _ _ 6 (omega arith)) in
-    left out c.refused-in-Refused.ensures
-    ∙ sym (one_refused a.broadcast a.self a.buf.now out (omega arith) _ e _ c.in-Refused.is)
+    left out c.refused-in-Err.ensures
+    ∙ sym (one_refused a.broadcast a.self a.buf.now out (omega arith) _ e _ c.in-Err.is)
 
-pub returns-in-Done : goal.returns-in-Done
-returns-in-Done c out =
+pub returns-in-Ok : goal.returns-in-Ok
+returns-in-Ok c out =
     let a = c.args in
     let e = c.check_frame_crc.ensures ∙ ap told (frame_byte _ _ _ 6 (omega arith)) in
     left out c.done.ensures
-    ∙ sym (one_checked a.broadcast a.self a.buf.now out (omega arith) _ e c.in-Done.is _
+    ∙ sym (one_checked a.broadcast a.self a.buf.now out (omega arith) _ e c.in-Ok.is _
     c.answer-s.ensures _ c.word.ensures)

@@ -12,14 +12,14 @@ pub returns-then-buf-start-lt6 : goal.returns-then-buf-start-lt6
 returns-then-buf-start-lt6 c out =
     left out c.refused.ensures ∙ sym (read_short _ _ _ _ out c.if-broadcast.false (omega arith))
 
-pub returns-in-Refused : goal.returns-in-Refused
-returns-in-Refused c out =
+pub returns-in-Err : goal.returns-in-Err
+returns-in-Err c out =
     let e = c.check_frame_crc.ensures ∙ ap told (frame_byte _ _ _ 6 (omega arith)) in
-    left out c.refused-in-Refused.ensures
-    ∙ sym (read_refused _ _ _ _ out c.if-broadcast.false (omega arith) _ e _ c.in-Refused.is)
+    left out c.refused-in-Err.ensures
+    ∙ sym (read_refused _ _ _ _ out c.if-broadcast.false (omega arith) _ e _ c.in-Err.is)
 
-pub returns-in-Done : goal.returns-in-Done
-returns-in-Done c out =
+pub returns-in-Ok : goal.returns-in-Ok
+returns-in-Ok c out =
     let e = c.check_frame_crc.ensures ∙ ap told (frame_byte _ _ _ 6 (omega arith)) in
     c.accept_read.ensures out
-    ∙ sym (read_checked _ _ _ _ out c.if-broadcast.false (omega arith) _ e c.in-Done.is)
+    ∙ sym (read_checked _ _ _ _ out c.if-broadcast.false (omega arith) _ e c.in-Ok.is)

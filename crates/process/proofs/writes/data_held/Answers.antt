@@ -5,11 +5,11 @@ use Rattle.modbus.specs.Paper.{told}
 use Rattle.process.proofs.ProcessLaws.{held_unread, held_behind}
 use Rattle.process.proofs.writes.data_held.Goals as goal
 
-pub returns-in-Refused : goal.returns-in-Refused
-returns-in-Refused c =
-    sym (ap told (held_unread _ _ _ c.reach.ensures _ c.in-Refused.is))
+pub returns-in-Err : goal.returns-in-Err
+returns-in-Err c =
+    sym (ap told (held_unread _ _ _ c.reach.ensures _ c.in-Err.is))
 
-pub returns-in-Done : goal.returns-in-Done
-returns-in-Done c =
+pub returns-in-Ok : goal.returns-in-Ok
+returns-in-Ok c =
     c.data_behind.ensures
-    ∙ sym (ap told (held_behind _ _ _ c.reach.ensures c.in-Done.is))
+    ∙ sym (ap told (held_behind _ _ _ c.reach.ensures c.in-Ok.is))
