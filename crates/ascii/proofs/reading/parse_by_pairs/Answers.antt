@@ -68,12 +68,12 @@ returns-then-cpos c =
     resumed_stop (spelt a.hex a.«data».now) c.least-end.result c.loop-data_pos.data_pos _ _ _ _ _ (left (goal.at.returns-then-cpos c).At-loop-data_pos) (refused OOB)
     (omega arith) (within n) (placed_full _ _ _ _ c.if-cpos.true)
 
-pub returns-in-Err : goal.returns-in-Err
-returns-in-Err c =
+pub returns-in-Refused : goal.returns-in-Refused
+returns-in-Refused c =
     let a = c.args in
-    let n = (goal.at.returns-in-Err c).After-least-end in
-    resumed_stop (spelt a.hex a.«data».now) c.least-end.result c.loop-data_pos.data_pos _ _ _ _ _ (left (goal.at.returns-in-Err c).At-loop-data_pos) (refused _) (omega arith) (within n)
-    (placed_stop _ _ _ _ c.if-cpos.false _ (read a.hex a.«data».now c.least-end.result c.loop-data_pos.data_pos c.in-Err.ensures))
+    let n = (goal.at.returns-in-Refused c).After-least-end in
+    resumed_stop (spelt a.hex a.«data».now) c.least-end.result c.loop-data_pos.data_pos _ _ _ _ _ (left (goal.at.returns-in-Refused c).At-loop-data_pos) (refused _) (omega arith) (within n)
+    (placed_stop _ _ _ _ c.if-cpos.false _ (read a.hex a.«data».now c.least-end.result c.loop-data_pos.data_pos c.in-Refused.ensures))
 
 pub returns-in-Stop : goal.returns-in-Stop
 returns-in-Stop c =
