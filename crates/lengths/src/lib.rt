@@ -17,7 +17,7 @@ use octets::word;
 
 // What a frame is: requests and responses differ only in how the first bytes tell the length of the body.
 #[derive(Clone, Copy)]
-enum Side {
+pub enum Side {
     Request,
     Response,
 }
@@ -34,18 +34,19 @@ fn many_body(b: &[u8]) -> Result<usize, ErrorKind>
 }
 
 // The length of a request's body; any function but 15 and 16 is guessed as six bytes.
+#[tactic(auto, using(crate::proofs::GuessLaws::request_other))]
 fn request_body(b: &[u8]) -> Result<usize, ErrorKind>
     requires { 2 ≤ length b.now }
     ensures { paper result ≡ told (request_body b.now) }
 {
     match b[1] {
-        15 => many_body(b),
-        16 => many_body(b),
+        15 | 16 => many_body(b),
         _ => Ok(6),
     }
 }
 
 // The length of a response's body; from function 128 on it is an exception.
+#[tactic(auto, using(crate::proofs::GuessLaws::response_exception, crate::proofs::GuessLaws::response_short, crate::proofs::GuessLaws::response_read, crate::proofs::GuessLaws::response_write, crate::proofs::GuessLaws::response_none))]
 fn response_body(b: &[u8]) -> Result<usize, ErrorKind>
     requires { 2 ≤ length b.now }
     ensures { paper result ≡ told (response_body b.now) }
@@ -58,10 +59,7 @@ fn response_body(b: &[u8]) -> Result<usize, ErrorKind>
     }
     match b[1] {
         1..=4 => Ok(3 + b[2] as usize),
-        5 => Ok(6),
-        6 => Ok(6),
-        15 => Ok(6),
-        16 => Ok(6),
+        5 | 6 | 15 | 16 => Ok(6),
         _ => Err(ErrorKind::FrameBroken),
     }
 }
@@ -77,13 +75,11 @@ fn body_len(side: Side, b: &[u8]) -> Result<usize, ErrorKind>
 }
 
 // A length, where a byte holds it.
+#[tactic(auto, using(crate::proofs::GuessLaws::byte_fits, crate::proofs::GuessLaws::byte_none))]
 fn in_byte(n: usize) -> Result<u8, ErrorKind>
     ensures { paper result ≡ told (in_byte n) }
 {
-    if n > 255 {
-        return Err(ErrorKind::FrameBroken);
-    }
-    Ok(n as u8)
+    u8::try_from(n).map_err(|_| ErrorKind::FrameBroken)
 }
 
 // The length of the frame around a body of `n` bytes.
@@ -106,11 +102,7 @@ fn serial_len(side: Side, b: &[u8], known: usize, proto: ModbusProto) -> Result<
     if known < 2 {
         return Err(ErrorKind::OOB);
     }
-    let body = body_len(side, &b[..known]);
-    match body {
-        Ok(n) => frame_len(n, proto),
-        Err(k) => Err(k),
-    }
+    frame_len(body_len(side, &b[..known])?, proto)
 }
 
 // The guess from a TCP header, which holds the length of any body.
@@ -131,15 +123,17 @@ fn ascii_len(side: Side, text: &[u8], hex: u8) -> Result<u8, ErrorKind>
     ensures { paper result ≡ told (guess (body_of side) Ascii (spelt hex text.now)) }
 {
     let mut buf = [0u8; 256];
-    let parsed = parse_text(text, text.len(), &mut buf, 0, hex);
-    match parsed {
-        Ok(n) => serial_len(side, &buf, n as usize, ModbusProto::Ascii),
-        Err(k) => Err(k),
-    }
+    let known = parse_text(text, text.len(), &mut buf, 0, hex)?;
+    serial_len(side, &buf, known as usize, ModbusProto::Ascii)
 }
 
 // The guess under a switch: 0 strict, 1 lenient.
-fn guess_frame_len(side: Side, frame: &[u8], proto: ModbusProto, hex: u8) -> Result<u8, ErrorKind>
+pub fn guess_frame_len(
+    side: Side,
+    frame: &[u8],
+    proto: ModbusProto,
+    hex: u8,
+) -> Result<u8, ErrorKind>
     ensures { paper result ≡ told (guess_under hex (body_of side) proto frame.now) }
 {
     if 1 < hex {

@@ -3,7 +3,8 @@
 #![tactic(auto)]
 
 ghost use Rattle.std.specs.Prelude.{◌≡◌, ℕ};
-ghost use Rattle.modbus.specs.Paper.{number, digit_of, paper_by, proto_paper, proto_asked};
+ghost use Rattle.modbus.specs.Step.{stop};
+ghost use Rattle.modbus.specs.Paper.{number, told, digit_of, paper_by, bad_transport, proto_paper, proto_asked};
 
 // Why a ported call is refused: the crate's kinds, as far as they are kept.
 #[derive(Clone, Copy, PartialEq, Eq)]
@@ -132,6 +133,25 @@ pub struct Answer {
     pub kind: u8,
 }
 
+impl From<ErrorKind> for Answer {
+    ghost from_gives = { λ kind answer. (answer.kind, answer.value) ≡ told (stop kind) };
+
+    fn from(kind: ErrorKind) -> Answer {
+        Answer {
+            value: 0,
+            kind: u8::from(kind),
+        }
+    }
+}
+
+impl From<BadSetup> for Answer {
+    ghost from_gives = { λ refused answer. (answer.kind, answer.value) ≡ bad_transport };
+
+    fn from(_refused: BadSetup) -> Answer {
+        Answer { value: 0, kind: 10 }
+    }
+}
+
 impl<T: Told> From<Result<T, ErrorKind>> for Answer {
     ghost from_gives = { λ called answer. (answer.kind, answer.value) ≡ paper_by T.told called };
 
@@ -141,10 +161,7 @@ impl<T: Told> From<Result<T, ErrorKind>> for Answer {
                 value: v.told(),
                 kind: 0,
             },
-            Err(k) => Answer {
-                value: 0,
-                kind: u8::from(k),
-            },
+            Err(k) => Answer::from(k),
         }
     }
 }

@@ -6,10 +6,11 @@ use contract.Lifetimes.{Lfts}
 use borrow.Fn.Kinds.{Dens, res_t, ended_of}
 use denote.Triple.Clauses.{Lasts, at_exit}
 use Rattle.modbus.proofs.Unique.{Unique}
-use Rattle.records.proofs.start.Kinds as start-kinds
-use Rattle.records.proofs.start.Reads as start-reads
-use Rattle.records.proofs.judged.Kinds as judged-kinds
-use Rattle.records.proofs.judged.Reads as judged-reads
+use Rattle.records.specs.declared.Tally.{Tally}
+use Rattle.records.proofs.reading.Reading.new.Kinds as start-kinds
+use Rattle.records.proofs.reading.Reading.new.Reads as start-reads
+use Rattle.records.proofs.Tally.judge.Kinds as judged-kinds
+use Rattle.records.proofs.Tally.judge.Reads as judged-reads
 use Rattle.records.proofs.report.Kinds as report-kinds
 use Rattle.records.proofs.report.Reads as report-reads
 use Rattle.records.proofs.parts.wide.Kinds as wide-kinds
@@ -34,8 +35,8 @@ use Rattle.records.proofs.parts.stands.Reads as stands-reads
 pub start : Unique 0 start-kinds.ps start-kinds.r start-reads.Post
 start κs a x y u v p q = (p ∙ sym q, refl)
 
-pub judged : Unique 0 judged-kinds.ps judged-kinds.r judged-reads.Post
-judged κs a x y u v p q = (p ∙ sym q, refl)
+pub judged : Unique 1 judged-kinds.ps judged-kinds.r judged-reads.Post
+judged κs a x y u v p q = (refl, ap (λ (t : Tally). (t, u.1)) (p ∙ sym q))
 
 pub report : Unique 2 report-kinds.ps report-kinds.r report-reads.Post
 report κs a x y u v p q = (p ∙ sym q, refl)

@@ -1,7 +1,7 @@
--- `records::filled` stays within the text, is safe and ends.
+-- `records::reading::fill` stays within the text, is safe and ends.
 -- Assumes nothing.
 use Rattle.std.proofs.Common.{◌-◌, ◌≤◌, length}
-use Rattle.records.proofs.filled.Given as goal
+use Rattle.records.proofs.reading.fill.Given as goal
 
 abbrev pub invariant-loop-done : goal.invariant-loop-done
 invariant-loop-done l = l.done ≤ length l.text
