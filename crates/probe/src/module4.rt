@@ -109,9 +109,7 @@ pub extern "C" fn probe_get_holdings_as_u8(
 ) -> Answer
     ensures { ((result.kind, result.value), response.new) ≡ told_with response.old (added registers table.now cells reg count response.old len) }
 {
-    Answer::from(tables::registers::get_holdings_as_u8(
-        table, cells, reg, count, response, len,
-    ))
+    Answer::from(tables::registers::get_holdings_as_u8(table, cells, reg, count, response, len))
 }
 
 #[unsafe(no_mangle)]
@@ -125,9 +123,7 @@ pub extern "C" fn probe_get_inputs_as_u8(
 ) -> Answer
     ensures { ((result.kind, result.value), response.new) ≡ told_with response.old (added registers table.now cells reg count response.old len) }
 {
-    Answer::from(tables::registers::get_inputs_as_u8(
-        table, cells, reg, count, response, len,
-    ))
+    Answer::from(tables::registers::get_inputs_as_u8(table, cells, reg, count, response, len))
 }
 
 #[unsafe(no_mangle)]
