@@ -145,20 +145,12 @@ pub(crate) fn setup(record: &[u8]) -> Setup {
 
 // Whether a result tells what the record says.
 pub(crate) fn told(record: &[u8], got: Driven) -> bool {
-    if got.outcome != byte(record, OUTCOME) {
-        return false;
+    got == Driven {
+        length: reply(record).len(),
+        outcome: byte(record, OUTCOME),
+        code: byte(record, CODE),
+        table: byte(record, TABLE),
+        first: word(record, FIRST),
+        count: word(record, COUNT),
     }
-    if got.code != byte(record, CODE) {
-        return false;
-    }
-    if got.table != byte(record, TABLE) {
-        return false;
-    }
-    if got.first != word(record, FIRST) {
-        return false;
-    }
-    if got.count != word(record, COUNT) {
-        return false;
-    }
-    got.length == reply(record).len()
 }

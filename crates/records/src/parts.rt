@@ -63,17 +63,14 @@ pub fn part<'a>(record: &'a [u8], lengths: u16, parts: u16, k: u8) -> &'a [u8]
 pub fn laid(i: usize, front: &[u8], filler: u8) -> u8
     ensures { result ≡ slice_index_or front.now i filler }
 {
-    if i < front.len() {
-        return front[i];
-    }
-    filler
+    front.get(i).copied().unwrap_or(filler)
 }
 
 pub fn lay(buffer: &mut [u8], front: &[u8], filler: u8)
     ensures { buffer.new ≡ laid_in buffer.old front.now filler }
 {
-    for i in 0..buffer.len() {
-        buffer[i] = laid(i, front, filler);
+    for (i, b) in buffer.iter_mut().enumerate() {
+        *b = laid(i, front, filler);
     }
 }
 
@@ -81,8 +78,8 @@ pub fn lay(buffer: &mut [u8], front: &[u8], filler: u8)
 pub fn lay_counted(buffer: &mut [u8], front: &[u8])
     ensures { buffer.new ≡ counted_in buffer.old front.now }
 {
-    for i in 0..buffer.len() {
-        buffer[i] = laid(i, front, ((0x5a + i % 256) % 256) as u8);
+    for (i, b) in buffer.iter_mut().enumerate() {
+        *b = laid(i, front, ((0x5a + i % 256) % 256) as u8);
     }
 }
 
@@ -107,8 +104,8 @@ pub fn stands(buffer: &[u8], front: &[u8], filler: u8, at: usize, after: &[u8]) 
     if buffer.len() - at < after.len() {
         return false;
     }
-    for i in 0..buffer.len() {
-        if buffer[i] != wanted(i, front, filler, at, after) {
+    for (i, b) in buffer.iter().enumerate() {
+        if *b != wanted(i, front, filler, at, after) {
             return false;
         }
     }
