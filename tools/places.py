@@ -13,7 +13,7 @@ REFUSED = re.compile(r'\b(Refused|Nothing|Unset|Unsupported|BadSetup|Done|More)\
 NUMBER = re.compile(r'-> (u8|u16|u32|u64|usize)\b')
 BARE = re.compile(r'return [01];|=> [01],|\n    [01]\n\}')
 FLAG = re.compile(r'\b(answer|failed|more|whole|half|broken|comment|ended|told|begun): (bool|\w*Answer|Result<)|\bkind: u8')
-CODE = re.compile(r'\b(kind|outcome|code|bits|request|broadcast): (u8|bool)\b|-> Quiet|, u8\)')
+CODE = re.compile(r'\b(kind|outcome|code|bits|request): (u8|bool)\b')
 LOOP = re.compile(r'^ *(?:\'\w+: )?(while .*|loop) \{|^ *for (\w+) in ([^{]*\.\.[^{]*) \{', re.M)
 BYTES = re.compile(r'/ 256\)? as u8|% 256\) as u8')
 HAND = re.compile(r'^(same_\w+|kind_number|\w+_number|proto_of|function_of|proto|function|\w+_answer|outcome_of|code_of|kind_code|bit_value|with_func|with_error)$')
@@ -66,6 +66,9 @@ def found(commit):
         for item, head, body in items(text, 'struct'):
             if FLAG.search(body):
                 yield 1, name, item, 'a flag or an answer beside values'
+        for item, head, body in items(text, 'struct|enum'):
+            if len(body.split('\n')) > 3:
+                shapes[re.sub(r'\bu\d+\b|\bbool\b|\busize\b', 'T', body.split('\n', 1)[1])].append((name, item))
         for item, head, body in items(text, 'fn'):
             params = re.findall(r'\b(\w+): ', re.sub(r'\b(requires|ensures)\b.*', '', head, flags=re.S))
             params += ['self'] if re.search(r'\((&mut |&|mut )?self\b', head) else []

@@ -4,7 +4,7 @@ ghost use Rattle.std.specs.Prelude.{◌≤◌};
 
 use driver::{Driven, Setup};
 use octets::{byte, word};
-use records::parts::{eight, stands, wide};
+use records::parts::{Layout, eight, stands, wide};
 
 // The setup.
 const TRANSPORT: usize = 0;
@@ -59,13 +59,14 @@ const PART_FRONTS: u8 = 4;
 
 const PART_COUNT: u8 = 8;
 
-// Whether the record ends where its parts do.
-pub(crate) fn whole(record: &[u8]) -> bool {
-    record.len() == records::parts::start_of(record, LENGTHS, PARTS, PART_COUNT)
-}
+pub(crate) const LAYOUT: Layout = Layout {
+    lengths: LENGTHS,
+    parts: PARTS,
+    count: PART_COUNT,
+};
 
 fn part(record: &[u8], k: u8) -> &[u8] {
-    records::parts::part(record, LENGTHS, PARTS, k)
+    LAYOUT.part(record, k)
 }
 
 // The broadcast list, the frame, and the reply that is expected.

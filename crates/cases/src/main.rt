@@ -158,7 +158,7 @@ fn with_read(record: &[u8], filler: u8) -> bool {
 // Whether all comes out as the record says. It runs twice, with two fillers: a byte written behind the reply cannot be
 // equal to both.
 fn agrees(record: &[u8]) -> bool {
-    if !fields::whole(record) {
+    if !fields::LAYOUT.is_whole(record) {
         return false;
     }
     if !with_read(record, 0) {

@@ -9,7 +9,8 @@ use lib.Dec.{eqb}
 use contract.Lifetimes.{Lfts}
 use borrow.Fn.Kinds.{ParamKind, ResultKind, Out, Dens, res_t, ended_of}
 use denote.Triple.Clauses.{Lasts, at_exit}
-use Rattle.std.specs.Prelude.{Result, Ok, Err, ⊤}
+use Rattle.std.proofs.Common.{true≢false}
+use Rattle.std.specs.Prelude.{◌↔◌, IsTrue, Result, Ok, Err, ⊤}
 use Rattle.modbus.specs.Paper.{number, digit_of, paper_by, paper, bit_paper, done_paper, hex_paper, proto_paper}
 use Rattle.modbus.specs.declared.ErrorKind.{ErrorKind}
 use Rattle.modbus.specs.declared.ErrorKind.TheVariants.{OOB, OOBContext, FrameBroken, FrameCRCError, IllegalDataValue, ReadCallOnWriteFrame, WriteCallOnReadFrame}
@@ -104,6 +105,13 @@ hex_back_law (Err k) = refused_back digit_back Err (0, 0) k
 pub by_back : {A N : Type 0} (paper : A → N) (way : N → A) → ((x : A) → way (paper x) ≡ x)
     → (x y : A) → paper x ≡ paper y → x ≡ y
 by_back paper way e x y p = sym (e x) ∙ ap way p ∙ e y
+
+-- a test of a fact has one answer
+pub same_truth : {P : Type 0} {x y : Bool} → IsTrue x ↔ P → IsTrue y ↔ P → x ≡ y
+same_truth {x = true} {y = true} p q = refl
+same_truth {x = false} {y = false} p q = refl
+same_truth {x = true} {y = false} p q = absurd (true≢false (sym (q.1 (p.0 refl))))
+same_truth {x = false} {y = true} p q = absurd (true≢false (sym (p.1 (q.0 refl))))
 
 pub paper_law : (x y : Result ℕ ErrorKind) → paper x ≡ paper y → x ≡ y
 paper_law = by_back paper (back Ok Err) (by_value (λ n. n) (λ n. n) (λ n. refl))
