@@ -22,6 +22,10 @@ use Rattle.modbus.specs.declared.Digit.{Digit}
 use Rattle.modbus.specs.declared.Digit.TheVariants.{Number, Capital, Small}
 use Rattle.modbus.proofs.U8FromErrorKind.from.Kinds as kind-number-kinds
 use Rattle.modbus.proofs.U8FromErrorKind.from.Reads as kind-number-reads
+use Rattle.modbus.proofs.AnswerFromErrorKind.from.Kinds as refused-answer-kinds
+use Rattle.modbus.proofs.AnswerFromErrorKind.from.Reads as refused-answer-reads
+use Rattle.modbus.proofs.AnswerFromBadSetup.from.Kinds as setup-answer-kinds
+use Rattle.modbus.proofs.AnswerFromBadSetup.from.Reads as setup-answer-reads
 use Rattle.modbus.proofs.ModbusProtoTryFromU8.try_from.Kinds as proto-of-kinds
 use Rattle.modbus.proofs.ModbusProtoTryFromU8.try_from.Reads as proto-of-reads
 
@@ -146,3 +150,14 @@ kind_number κs a x y u v p q = (p ∙ sym q, refl)
 
 pub answer_paper : (x y : Answer) → ◌≡◌ {A = ℕ × ℕ} (x.kind, x.value) (y.kind, y.value) → x ≡ y
 answer_paper x y e = ap (λ (n : ℕ × ℕ). record { value = n.1; kind = n.0 }) e
+
+pub refused_answer : Unique 0 refused-answer-kinds.ps refused-answer-kinds.r refused-answer-reads.Post
+refused_answer κs a x y u v p q = (answer_paper x y (p ∙ sym q), refl)
+
+pub setup_answer : Unique 0 setup-answer-kinds.ps setup-answer-kinds.r setup-answer-reads.Post
+setup_answer κs a x y u v p q = (answer_paper x y (p ∙ sym q), refl)
+
+-- of an answer's value, whatever its type
+pub called_answer : {A : Type 0} (f : A → ℕ) (r : Result A ErrorKind) (x y : Answer)
+    → ◌≡◌ {A = ℕ × ℕ} (x.kind, x.value) (paper_by f r) → ◌≡◌ {A = ℕ × ℕ} (y.kind, y.value) (paper_by f r) → x ≡ y
+called_answer f r x y p q = answer_paper x y (p ∙ sym q)
