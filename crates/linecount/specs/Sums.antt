@@ -46,13 +46,7 @@ Powers l n = Filled (λ j. power (j / 16) (j % 16)) l n
 abbrev pub Openings : List ℕ → ℕ → Type 0
 Openings l n = Filled (λ k. shifts (8 * k) 0xFFFF) l n
 
-abbrev pub Tables : List ℕ → List ℕ → Type 0
-Tables powers openings = (length powers ≡ 131104) × (length openings ≡ 4097) × Powers powers 131104 × Openings openings 4097
-
 -- ---- the work on a record l: entry k is for the place where k bytes are left
-
-abbrev pub Room : List ℕ → List ℕ → List ℕ → Type 0
-Room sums nearest counts = (length sums ≡ 4097) × (length nearest ≡ 65536) × (length counts ≡ 4097)
 
 abbrev pub Sums : List ℕ → List ℕ → ℕ → Type 0
 Sums sums l n = Filled (λ k. tail l (length l - k)) sums n

@@ -16,7 +16,7 @@ use Rattle.logs.specs.declared.Counted.{Counted}
 use Rattle.logs.specs.declared.Total.{Total}
 use Rattle.logs.specs.declared.Fault.{Fault}
 use Rattle.logs.specs.declared.Fault.TheVariants.{BadMark, BadRecord, TooLong}
-use Rattle.logs.proofs.CountLaws.{counted_fits}
+use Rattle.logs.proofs.CountLaws.{counted_fits, sound_more}
 
 -- ---- the front of a log
 
@@ -232,15 +232,18 @@ some_bytes : (t : Total) (l : List ℕ) → 0 < length l → finished t l ≡ Er
 some_bytes t [] a = absurd (omega arith)
 some_bytes t (x ∷ l) a = refl
 
+pub ends_few : (t : Total) (l : List ℕ) → 0 < length l → peeked t.at l ≡ Ok None → report t l ≡ Err (BadRecord t.at)
+ends_few t l a e =
+    report_last t l (λ n w. unlike (sym e ∙ w) (λ h. omega (arith, h))) ∙ ap (go_on report t l) e ∙ some_bytes t l a
+
 pub ends_cut : (t : Total) (l : List ℕ) → 0 < length l → ¬ peeked t.at l ≡ Err (BadMark t.at) → ¬ peeked t.at l ≡ Err TooLong → ((n : ℕ) → ¬ peeked t.at l ≡ Ok (Some n))
     → report t l ≡ Err (BadRecord t.at)
 ends_cut t l a m o w =
-    let cut : peeked t.at l ≡ Ok None → report t l ≡ Err (BadRecord t.at) = λ e. report_last t l w ∙ ap (go_on report t l) e ∙ some_bytes t l a in
     peek_cases t.at l
     (λ _ e. absurd (m e))
-    (λ _ b e. cut e)
+    (λ _ b e. ends_few t l a e)
     (λ _ b c e. ends_fault t l (BadRecord t.at) e)
-    (λ _ b c d e. cut e)
+    (λ _ b c d e. ends_few t l a e)
     (λ _ b c d f e. absurd (o e))
     (λ _ b c d f e. absurd (w _ e))
 
@@ -267,6 +270,9 @@ module _ (t : Total) (l : List ℕ) (u : Total) (m : List ℕ) (same : (rest : L
       → Err (BadRecord u.at) ≡ report t l
   then_cut a b c d = sym (nothing_behind t l u m same ∙ ends_cut u m a b c d)
 
+  pub then_few : 0 < length m → peeked u.at m ≡ Ok None → Err (BadRecord u.at) ≡ report t l
+  then_few a e = sym (nothing_behind t l u m same ∙ ends_few u m a e)
+
   pub then_empty : m ≡ [] → Ok u ≡ report t l
   then_empty e = sym (nothing_behind t l u m same ∙ ap (report u) e ∙ ends_empty u)
 
@@ -274,12 +280,10 @@ module _ (t : Total) (l : List ℕ) (u : Total) (m : List ℕ) (same : (rest : L
 
 -- what is counted is no more than the log has bytes
 pub sound_step : (t : Total) (l : List ℕ) (n : ℕ) → Sound t → peeked t.at l ≡ Ok (Some n) → Sound (advanced t (take n (drop 4 l)))
-unfolding advanced
 sound_step t l n s w =
     let (a, b, c) = whole_is t.at l n w in
     let k : length (take n (drop 4 l)) ≡ n = length-take-le n (drop 4 l) (let d = length-drop 4 l in omega (arith, d, a)) in
-    let (f, i) = counted_fits (take n (drop 4 l)) in
-    (omega (arith, k, c), omega (arith, s.1), omega (arith, s.2, f, i), omega (arith, s.3, i))
+    sound_more t (take n (drop 4 l)) s (omega (arith, k, c))
 
 pub at_step : (t : Total) (l : List ℕ) (n : ℕ) → peeked t.at l ≡ Ok (Some n) → (advanced t (take n (drop 4 l))).at ≡ t.at + (4 + n)
 unfolding advanced
