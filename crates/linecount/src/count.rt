@@ -9,20 +9,20 @@ use logs::{Fault, Total, look};
 
 // Counts a log: the tables of the search, room for its work, and the totals up to where the log stands.
 #[derive(Drop)]
-pub(crate) struct Counter {
-    tables: Tables,
-    room: Room,
+pub(crate) struct Counter<'a> {
+    tables: &'a Tables,
+    room: &'a mut Room,
     pub total: Total,
     ghost sound: { Sound total },
 }
 
-impl Counter {
-    pub(crate) fn new() -> Counter
+impl<'a> Counter<'a> {
+    pub(crate) fn new(tables: &'a Tables, room: &'a mut Room) -> Counter<'a>
         ensures { result.total ≡ start }
     {
         Counter {
-            tables: Tables::new(),
-            room: Room::new(),
+            tables,
+            room,
             total: Total {
                 at: 0,
                 records: 0,
@@ -39,7 +39,7 @@ impl Counter {
         requires { (self.old.total.at + (4 + length «record».now) ≤ 4294967295) × (length «record».now ≤ 4096) }
         ensures { self.new.total ≡ advanced self.old.total «record».now }
     {
-        let c = self.room.count_record(record, &self.tables);
+        let c = self.room.count_record(record, self.tables);
         let n = record.len() as u64;
         let inside = c.inside as u64;
         let t = self.total;

@@ -8,7 +8,9 @@ mod tables;
 mod voice;
 
 fn main(rt: HostRuntime) {
-    let mut counter = count::Counter::new();
+    let tables = tables::Tables::new();
+    let mut room = index::Room::new();
+    let mut counter = count::Counter::new(&tables, &mut room);
     let outcome = reading::count_log(&rt, &mut counter);
     voice::say(&rt, outcome);
 }

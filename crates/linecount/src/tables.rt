@@ -69,10 +69,12 @@ pub(crate) struct Tables {
 
 impl Tables {
     pub(crate) fn new() -> Tables {
-        let mut powers = [0; 131104];
-        fill::<HalfBytes>(&mut powers);
-        let mut openings = [0; 4097];
-        fill::<StartValues>(&mut openings);
-        Tables { powers, openings }
+        let mut tables = Tables {
+            powers: [0; 131104],
+            openings: [0; 4097],
+        };
+        fill::<HalfBytes>(&mut tables.powers);
+        fill::<StartValues>(&mut tables.openings);
+        tables
     }
 }
