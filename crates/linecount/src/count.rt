@@ -23,13 +23,7 @@ impl<'a> Counter<'a> {
         Counter {
             tables,
             room,
-            total: Total {
-                at: 0,
-                records: 0,
-                frames: 0,
-                inside: 0,
-                other: 0,
-            },
+            total: Total::default(),
         }
     }
 

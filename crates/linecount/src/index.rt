@@ -4,7 +4,7 @@
 ghost use Rattle.std.specs.Prelude.{◌≡◌, ℕ, ◌+◌, ◌-◌, ◌*◌, ◌/◌, ◌%◌, ◌<◌, ◌≤◌, length, bit_xor, slice_index};
 ghost use Rattle.modbus.specs.Step.{choose};
 ghost use Rattle.logs.specs.Log.{counted_in};
-ghost use Rattle.linecount.specs.Sums.{power, Sums, Counts, reaches?};
+ghost use Rattle.linecount.specs.Sums.{power, sums, counts, reaches?};
 
 use crate::tables::Tables;
 use logs::Counted;
@@ -21,37 +21,43 @@ fn added(tables: &Tables, k: usize, b: u8) -> u16
     tables.powers[32 * k + b as usize / 16] ^ tables.powers[32 * k + 16 + b as usize % 16]
 }
 
-// Room for the work on a record. `sums` and `counts` have an entry for each number of bytes that may be left, `nearest` a place for each sum.
+// The sum at a place, and what is counted from there on: frames and bytes in one number, since a store more for each byte would cost 4 per cent.
+#[derive(Clone, Copy)]
+pub(crate) struct Place {
+    pub sum: u16,
+    pub counted: u32,
+}
+
+// Room for the work on a record: a place for each number of bytes that may be left, and for each sum the latest place with it.
 #[derive(Drop)]
 pub(crate) struct Room {
-    pub sums: [u16; 4097],
+    pub places: [Place; 4097],
     pub nearest: [u16; 65536],
-    pub counts: [u32; 4097],
 }
 
 impl Room {
     pub(crate) fn new() -> Room {
         Room {
-            sums: [0; 4097],
+            places: [Place { sum: 0, counted: 0 }; 4097],
             nearest: [0; 65536],
-            counts: [0; 4097],
         }
     }
 
     // What is counted from a start with k bytes left, where `next` is counted from the start behind it: a frame reaches from there to h where its sum
     // is w.
     fn counted(&self, k: usize, h: u16, w: u16, next: u32) -> u32
-        requires { (k ≤ 4096) × ((j : ℕ) → j < k → slice_index self.now.counts j ≤ 268439552) }
-        ensures { result ≡ choose (reaches? self.now.sums k h w) (slice_index self.now.counts h + (65536 + (k - h))) next }
+        requires { (k ≤ 4096) × ((j : ℕ) → j < k → slice_index (counts self.now.places) j ≤ 268439552) }
+        ensures { result ≡ choose (reaches? (sums self.now.places) k h w) (slice_index (counts self.now.places) h + (65536 + (k - h))) next }
     {
         let h = h as usize;
         if LONGER < wrapping_sub_usize(k, h + 4) {
             return next;
         }
-        if self.sums[h] != w {
+        let end = &self.places[h];
+        if end.sum != w {
             return next;
         }
-        self.counts[h] + (65536 + (k - h) as u32)
+        end.counted + (65536 + (k - h) as u32)
     }
 
     pub(crate) fn count_record(&mut self, record: &[u8], tables: &Tables) -> Counted
@@ -60,29 +66,26 @@ impl Room {
     {
         let n = record.len();
         if n < 4 {
-            return Counted {
-                frames: 0,
-                inside: 0,
-            };
+            return Counted::default();
         }
         // No frame begins where fewer than four bytes are left.
         let mut z = 0u16;
-        self.sums[0] = 0;
-        self.counts[0] = 0;
+        self.places[0] = Place { sum: 0, counted: 0 };
         for k in 1..4usize {
             z ^= added(tables, k, record[n - k]);
-            self.sums[k] = z;
-            self.counts[k] = 0;
+            self.places[k] = Place { sum: z, counted: 0 };
         }
         // Every start from the end on. What `nearest` held before does not matter.
         let mut c = 0u32;
         for k in 4..n + 1 {
             z ^= added(tables, k, record[n - k]);
-            self.sums[k] = z;
-            self.nearest[self.sums[k - 4] as usize] = (k - 4) as u16;
+            self.nearest[self.places[k - 4].sum as usize] = (k - 4) as u16;
             let w = z ^ tables.openings[k];
             c = self.counted(k, self.nearest[w as usize], w, c);
-            self.counts[k] = c;
+            // Field by field: the whole would write its padding too, an instruction more for each byte.
+            let place = &mut self.places[k];
+            place.sum = z;
+            place.counted = c;
         }
         Counted {
             frames: (c / 65536) as usize,

@@ -79,7 +79,7 @@ impl Buffer {
 const TURNS: u64 = 4294971395;
 
 // Reads until the log ends.
-fn read_all(
+fn read_log(
     rt: &HostRuntime,
     buffer: &mut Buffer,
     counter: &mut Counter,
@@ -102,7 +102,7 @@ fn read_all(
 pub(crate) fn count_log(rt: &HostRuntime, counter: &mut Counter) -> Result<Total, Failure> {
     let mut buffer = Buffer::new();
     let mut watch = Watch::begin(rt);
-    let all = read_all(rt, &mut buffer, counter, &mut watch);
+    let all = read_log(rt, &mut buffer, counter, &mut watch);
     if let Some(w) = watch {
         w.end(rt);
     }

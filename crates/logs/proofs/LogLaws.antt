@@ -113,11 +113,6 @@ kind (Err f) = 0
 kind (Ok None) = 1
 kind (Ok (Some n)) = 2
 
-abbrev size : Peek → ℕ
-size (Err f) = 0
-size (Ok None) = 0
-size (Ok (Some n)) = n
-
 unlike : {C : Type 0} {p q : Peek} → p ≡ q → ¬ kind p ≡ kind q → C
 unlike e h = absurd (h (ap kind e))
 
@@ -130,7 +125,7 @@ whole_is o l n w =
     (λ m a b e. unlike (sym e ∙ w) (λ h. omega (arith, h)))
     (λ m a b c e. unlike (sym e ∙ w) (λ h. omega (arith, h)))
     (λ m a b c d e. unlike (sym e ∙ w) (λ h. omega (arith, h)))
-    (λ m a b c d e. let z = ap size (sym e ∙ w) in (omega (arith, z), omega (arith, z), omega (arith, z)))
+    (λ m a b c d e. let y = sym e ∙ w in let z : word_at l 2 ≡ n = cc in (omega (arith, z), omega (arith, z), omega (arith, z)))
 
 pub whole_fits : (o : ℕ) (l : List ℕ) (n : ℕ) → peeked o l ≡ Ok (Some n) → 4 + n ≤ length l
 whole_fits o l n w = (whole_is o l n w).0
@@ -214,9 +209,12 @@ report_last t l h = by_fuel (length l) l refl h
 
 -- ---- the end of a log
 
+told : (t : Total) (l : List ℕ) (p : Peek) → peeked t.at l ≡ p → ¬ kind p ≡ 2 → report t l ≡ go_on report t l p
+told t l p e k = report_last t l (λ n w. unlike (sym e ∙ w) k) ∙ ap (go_on report t l) e
+
 module _ (t : Total) (l : List ℕ) where
   pub ends_fault : (f : Fault) → peeked t.at l ≡ Err f → report t l ≡ Err f
-  ends_fault f e = report_last t l (λ n w. unlike (sym e ∙ w) (λ h. omega (arith, h))) ∙ ap (go_on report t l) e
+  ends_fault f e = told t l (Err f) e (λ h. omega (arith, h))
 
   pub ends_mark : peeked t.at l ≡ Err (BadMark t.at) → report t l ≡ Err (BadMark t.at)
   ends_mark = ends_fault (BadMark t.at)
@@ -225,16 +223,14 @@ module _ (t : Total) (l : List ℕ) where
   ends_long = ends_fault TooLong
 
 pub ends_empty : (t : Total) → report t [] ≡ Ok t
-ends_empty t =
-    report_last t [] (λ n w. unlike (sym (peek_empty t.at) ∙ w) (λ h. omega (arith, h))) ∙ ap (go_on report t []) (peek_empty t.at)
+ends_empty t = told t [] (Ok None) (peek_empty t.at) (λ h. omega (arith, h))
 
 some_bytes : (t : Total) (l : List ℕ) → 0 < length l → finished t l ≡ Err (BadRecord t.at)
 some_bytes t [] a = absurd (omega arith)
 some_bytes t (x ∷ l) a = refl
 
 pub ends_few : (t : Total) (l : List ℕ) → 0 < length l → peeked t.at l ≡ Ok None → report t l ≡ Err (BadRecord t.at)
-ends_few t l a e =
-    report_last t l (λ n w. unlike (sym e ∙ w) (λ h. omega (arith, h))) ∙ ap (go_on report t l) e ∙ some_bytes t l a
+ends_few t l a e = told t l (Ok None) e (λ h. omega (arith, h)) ∙ some_bytes t l a
 
 pub ends_cut : (t : Total) (l : List ℕ) → 0 < length l → ¬ peeked t.at l ≡ Err (BadMark t.at) → ¬ peeked t.at l ≡ Err TooLong → ((n : ℕ) → ¬ peeked t.at l ≡ Ok (Some n))
     → report t l ≡ Err (BadRecord t.at)

@@ -9,7 +9,7 @@ ghost use Rattle.logs.specs.Log.{Marked, peeked};
 use octets::word;
 
 // Where the log stands, and what was counted up to there: records, frames, bytes inside frames, and the others.
-#[derive(Clone, Copy)]
+#[derive(Clone, Copy, Default)]
 pub struct Total {
     pub at: u64,
     pub records: u64,
@@ -27,7 +27,7 @@ pub enum Fault {
 }
 
 // How many frames stand in a record, and how many of its bytes they take.
-#[derive(Clone, Copy)]
+#[derive(Clone, Copy, Default)]
 pub struct Counted {
     pub frames: usize,
     pub inside: usize,

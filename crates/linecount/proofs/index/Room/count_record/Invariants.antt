@@ -3,13 +3,13 @@
 -- Assumes nothing.
 use Rattle.std.proofs.Common.{◌≡◌, ◌-◌, length}
 use Rattle.logs.specs.Log.{rest}
-use Rattle.linecount.specs.Sums.{tail, packed, Sums, Near, Counts}
+use Rattle.linecount.specs.Sums.{tail, packed, sums, counts, Sums, Near, Counts}
 use Rattle.linecount.proofs.index.Room.count_record.Given as goal
 
 abbrev pub invariant-loop-k : goal.invariant-loop-k
 invariant-loop-k l =
-    (l.z ≡ tail l.record (length l.record - (l.k - 1))) × Sums l.self.sums l.record l.k × Counts l.self.counts l.record l.k
+    (l.z ≡ tail l.record (length l.record - (l.k - 1))) × Sums (sums l.self.places) l.record l.k × Counts (counts l.self.places) l.record l.k
 
 abbrev pub invariant-loop-k-2 : goal.invariant-loop-k-2
 invariant-loop-k-2 l = (l.z ≡ tail l.record (length l.record - (l.k - 1))) × (l.c ≡ packed (rest l.record (length l.record - (l.k - 1))))
-    × Sums l.self.sums l.record l.k × Near l.self.nearest l.record (l.k - 4) × Counts l.self.counts l.record l.k
+    × Sums (sums l.self.places) l.record l.k × Near l.self.nearest l.record (l.k - 4) × Counts (counts l.self.places) l.record l.k
