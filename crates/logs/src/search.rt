@@ -4,7 +4,6 @@ ghost use Rattle.modbus.specs.Check.{crc};
 ghost use Rattle.logs.specs.Search.{first_in, paper, Ends};
 
 use checks::crc_byte;
-use octets::least;
 
 // Where a frame stands in a record, and how many bytes it has.
 #[derive(Clone, Copy)]
@@ -35,7 +34,7 @@ pub fn first_frame(record: &[u8], from: usize) -> Option<Frame>
 {
     let mut found = None;
     'starts: for start in from..record.len().saturating_sub(3) {
-        let most = least(256, record.len() - start);
+        let most = usize::min(256, record.len() - start);
         let mut register = opening(record, start);
         for n in 4..most + 1 {
             if ends(record, start + n, register) {

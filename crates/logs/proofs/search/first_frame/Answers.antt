@@ -31,7 +31,7 @@ loop-n-init c =
     let r = c.args.«record».now in
     let s = c.starts.start in
     let i = c.starts.invariant in
-    let most = c.least-most.ensures in (
+    let most = c.min-most.ensures in (
       i.0,
       omega arith,
       c.opening-register.ensures,
@@ -49,7 +49,7 @@ loop-n-preserved c =
       i.0,
       omega arith,
       rw k (c.crc_byte-register.ensures ∙ more r s n c.loop-n.register (omega arith) (omega arith) i.2),
-      i.3 ∙ passed r s c.least-most.result n _ (omega arith) (λ h. miss (c.ends.ensures.1 (rw i.2 h))) ∙ on_length r s c.least-most.result n _,
+      i.3 ∙ passed r s c.min-most.result n _ (omega arith) (λ h. miss (c.ends.ensures.1 (rw i.2 h))) ∙ on_length r s c.min-most.result n _,
     )
 
 pub starts-preserved : goal.starts-preserved
@@ -66,4 +66,4 @@ pub returns-then-ends : goal.returns-then-ends
 returns-then-ends c =
     let r = c.args.«record».now in
     let i = c.loop-n.invariant in
-    sym (i.3 ∙ taken r c.starts.start c.least-most.result c.loop-n.n _ (omega arith) (rw i.2 at (c.ends.ensures.0 c.if-ends.true)))
+    sym (i.3 ∙ taken r c.starts.start c.min-most.result c.loop-n.n _ (omega arith) (rw i.2 at (c.ends.ensures.0 c.if-ends.true)))
