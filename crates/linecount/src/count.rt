@@ -47,6 +47,7 @@ impl<'a> Counter<'a> {
     }
 
     // Takes the whole records at the front, up to a fault. Answers how many bytes they take, where what is behind them is not enough to tell.
+    #[tactic(auto, using(crate::proofs::ReadingLaws::whole_front))]
     pub(crate) fn count_part(&mut self, log: &[u8]) -> Result<usize, Fault>
         ensures taken { Continues self.old.total log.now self.new.total (left self.old.total self.new.total log.now) × (self.old.total.at ≤ self.new.total.at) × (self.new.total.at ≤ self.old.total.at + length log.now) }
         ensures waits { IfOk result (λ used. (self.new.total.at ≡ self.old.total.at + used) × (peeked self.new.total.at (left self.old.total self.new.total log.now) ≡ Ok None)) }

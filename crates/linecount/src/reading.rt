@@ -55,6 +55,7 @@ impl Buffer {
         requires { self.old.have + n ≤ 65536 }
         ensures continues { IfOk result (λ _. Continues counter.old.total (take (self.old.have + n) self.old.bytes) counter.new.total (take self.new.have self.new.bytes)) }
         ensures settled { IfErr result (λ fault. Settled counter.old.total (take (self.old.have + n) self.old.bytes) × (report counter.old.total (take (self.old.have + n) self.old.bytes) ≡ Err fault)) }
+        ensures kept { IfErr result (λ _. self.new ≡ self.old) }
         ensures moves { IfOk result (λ _. counter.new.total.at + self.new.have ≡ counter.old.total.at + (self.old.have + n)) }
     {
         let end = self.have + n;
