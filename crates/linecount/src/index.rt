@@ -8,7 +8,6 @@ ghost use Rattle.linecount.specs.Sums.{power, sums, counts, reaches?};
 
 use crate::tables::Tables;
 use logs::Counted;
-use std::num::wrapping_sub_usize;
 
 // How many bytes the longest frame has more than the shortest.
 const LONGER: usize = 252;
@@ -50,7 +49,7 @@ impl Room {
         ensures { result ≡ choose (reaches? (sums self.now.places) k h w) (slice_index (counts self.now.places) h + (65536 + (k - h))) next }
     {
         let h = h as usize;
-        if LONGER < wrapping_sub_usize(k, h + 4) {
+        if LONGER < k.wrapping_sub(h + 4) {
             return next;
         }
         let end = &self.places[h];

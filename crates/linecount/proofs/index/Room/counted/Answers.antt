@@ -5,8 +5,8 @@ use Rattle.modbus.proofs.StepLaws.{pick_yes, pick_no}
 use Rattle.linecount.proofs.IndexLaws.{sum_at, counted_at}
 use Rattle.linecount.proofs.index.Room.counted.Goals as goal
 
-pub returns-then-wrapping_sub_usize-gt-LONGER : goal.returns-then-wrapping_sub_usize-gt-LONGER
-returns-then-wrapping_sub_usize-gt-LONGER c = sym (pick_no _ _ _ (λ (u, (v, t)). omega (arith, u, v)))
+pub returns-then-k-h-gt-LONGER : goal.returns-then-k-h-gt-LONGER
+returns-then-k-h-gt-LONGER c = sym (pick_no _ _ _ (λ (u, (v, t)). omega (arith, u, v)))
 
 pub returns-then-end-w : goal.returns-then-end-w
 returns-then-end-w c = sym (pick_no _ _ _ (λ (u, (v, t)). c.if-end-w.true (sym (sum_at c.args.self.now.places c.args.h) ∙ t)))
