@@ -12,7 +12,7 @@ ghost use Rattle.process.specs.Resumed.{confirmed_by};
 use crate::added::add_echo;
 use crate::cells::{Cells, data_behind, illegal};
 use frame::{Left, ModbusFrame};
-
+use modbus::ErrorKind;
 use octets::word;
 use outgoing::reach;
 use tables::coils::{set_coil, set_coils_from_u8};

@@ -10,12 +10,12 @@ use Rattle.external.proofs.process_external_read.Goals as goal
 pub returns-then-response-frame : goal.returns-then-response-frame
 returns-then-response-frame c = left _ c.refused.ensures ∙ sym (report_exceeds _ _ _ _ (omega arith))
 
-pub returns-in-Ok : goal.returns-in-Ok
-returns-in-Ok c =
+pub returns-in-Done : goal.returns-in-Done
+returns-in-Done c =
     let s = c.args.frame in
     left _ c.read_done.ensures
     ∙ read_done_left_law (ported_of s.func) s _
-    ∙ sym (report_by _ _ _ _ (omega arith) _ c.in-Ok.is)
+    ∙ sym (report_by _ _ _ _ (omega arith) _ c.in-Done.is)
 
 pub returns : goal.returns
 returns c = report_other _ _ _ _ _ c.in_default.not-Done (omega arith) c.fail.ensures
