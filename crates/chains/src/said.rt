@@ -4,7 +4,7 @@ use crate::state::same_state;
 use external::{Data, Read, ReadAnswer, ReadLeft, Reported, Write, WriteAnswer, WriteLeft};
 use frame::changes::Changes;
 use frame::{Left, ModbusFrame};
-use modbus::{ErrorKind, kind_number};
+use modbus::ErrorKind;
 use octets::{byte, word};
 
 // What is reported to a call.
@@ -44,7 +44,7 @@ pub(crate) fn left(record: &[u8], l: Left) -> bool {
     let s = l.frame;
     match answer {
         Ok(()) => bare(record, 0, s),
-        Err(k) => bare(record, kind_number(k), s),
+        Err(k) => bare(record, u8::from(k), s),
     }
 }
 
@@ -79,7 +79,7 @@ pub(crate) fn read_left(record: &[u8], l: ReadLeft) -> bool {
     let answer = l.answer;
     let s = l.frame;
     match answer {
-        ReadAnswer::Refused(k) => bare(record, kind_number(k), s),
+        ReadAnswer::Refused(k) => bare(record, u8::from(k), s),
         ReadAnswer::Value(r) => kind_and_state(record, 0, s) && read(record, r),
     }
 }
@@ -95,7 +95,7 @@ pub(crate) fn write_left(record: &[u8], l: WriteLeft) -> bool {
     let answer = l.answer;
     let s = l.frame;
     match answer {
-        WriteAnswer::Refused(k) => bare(record, kind_number(k), s),
+        WriteAnswer::Refused(k) => bare(record, u8::from(k), s),
         WriteAnswer::Value(w) => kind_and_state(record, 0, s) && write(record, w),
     }
 }

@@ -1,6 +1,6 @@
 // The state of a frame as it stands in a record.
 use frame::{FunctionAnswer, ModbusError, ModbusFrame, ModbusFunction, function_of};
-use modbus::{ModbusProto, proto_of};
+use modbus::ModbusProto;
 use octets::{byte, word};
 use records::parts::eight;
 
@@ -10,9 +10,9 @@ const BEFORE: usize = 2;
 const AFTER: usize = 30;
 
 fn proto(number: u8) -> ModbusProto {
-    match proto_of(number) {
+    match ModbusProto::try_from(number) {
         Ok(p) => p,
-        Err(BadSetup) => ModbusProto::TcpUdp,
+        Err(_) => ModbusProto::TcpUdp,
     }
 }
 
