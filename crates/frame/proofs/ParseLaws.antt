@@ -25,7 +25,7 @@ use Rattle.incoming.proofs.EnvelopeLaws.{tcp_begun}
 use Rattle.frame.specs.State.{ported_of, function_paper, function_of, started, grown, responding_to, with_func, with_error, answering, counting, to_process, After, well, refused, ended}
 use Rattle.frame.specs.Parse.{or_leave, answered, first_word, second_word, byte_count, read_accepted, read_parsed, one_parsed, many_accepted, many_parsed, requested, unsupported, function_byte, function_named, header, copies_header, Headed, for_us, unit_byte, addressed, frame_parsed}
 use Rattle.frame.specs.declared.ModbusFunction.{ModbusFunction}
-use Rattle.frame.specs.declared.FunctionAnswer.TheVariants.{Value, Unsupported}
+use Rattle.frame.specs.declared.Unsupported.{Unsupported}
 use Rattle.frame.specs.declared.ModbusFrame.{ModbusFrame}
 use Rattle.frame.proofs.StateLaws.{fn_back, function_found, function_missing}
 
@@ -141,12 +141,12 @@ module _ (broadcast : Bool) (s : ModbusFrame) (buf out : List ℕ) where
   named_short h = ap ended (fail _ _ _ (λ (k : s.frame_start + 2 ≤ length buf). omega arith))
 
   module _ (h : s.frame_start + 2 ≤ length buf) where
-    pub named_unsupported : function_of (function_byte s buf) ≡ function_paper Unsupported
+    pub named_unsupported : (u : Unsupported) → function_of (function_byte s buf) ≡ function_paper (Err u)
         → function_named broadcast s buf out ≡ well (unsupported broadcast (responding_to (function_byte s buf) s)) out
     unfolding function_named
-    named_unsupported e = ap ended (pass _ _ _ h ∙ halt _ _ (find_none _ _ _ (function_missing _ e) _))
+    named_unsupported u e = ap ended (pass _ _ _ h ∙ halt _ _ (find_none _ _ _ (function_missing _ u e) _))
 
-    pub named_supported : (f : ModbusFunction) → function_of (function_byte s buf) ≡ function_paper (Value f)
+    pub named_supported : (f : ModbusFunction) → function_of (function_byte s buf) ≡ function_paper (Ok f)
         → (t : ModbusFrame) → t ≡ with_func f (responding_to (function_byte s buf) s)
         → function_named broadcast s buf out ≡ ended (requested (ported_of f) broadcast s t buf out)
     unfolding function_named

@@ -2,30 +2,26 @@
 -- Assumes nothing.
 use mathlib.Core.Path.{sym, ◌∙◌}
 use native.Mathlib.Omega.{arith}
-use Rattle.frame.proofs.StateLaws.{left}
 use Rattle.frame.proofs.ParseLaws.{address_short, address_broadcast, address_foreign, address_own}
 use Rattle.frame.proofs.ModbusFrame.address.Goals as goal
 
-pub returns-then-buf-start : goal.returns-then-buf-start
-returns-then-buf-start c =
+pub returns-then-buf-self : goal.returns-then-buf-self
+returns-then-buf-self c =
     let a = c.args in
-    left _ c.refused.ensures
-    ∙ sym (address_short a.self a.buf.now a.list.now a.response.now (omega arith))
+    sym (address_short a.self.now a.buf.now a.list.now a.response.now (omega arith))
 
 pub returns-then-contains : goal.returns-then-contains
 returns-then-contains c =
     let a = c.args in
     let e = c.contains.ensures in
     c.for_us.ensures
-    ∙ sym (address_broadcast a.self a.buf.now a.list.now a.response.now (omega arith) _ e
-    c.if-contains.true)
+    ∙ sym (address_broadcast a.self.now a.buf.now a.list.now a.response.now (omega arith) _ e c.if-contains.true)
 
 pub returns-then-unit-self : goal.returns-then-unit-self
 returns-then-unit-self c =
     let a = c.args in
     let e = c.contains.ensures in
-    left _ c.done.ensures
-    ∙ sym (address_foreign a.self a.buf.now a.list.now a.response.now (omega arith) _ e c.if-contains.false
+    sym (address_foreign a.self.now a.buf.now a.list.now a.response.now (omega arith) _ e c.if-contains.false
     c.if-unit-self.true)
 
 pub returns : goal.returns
@@ -33,5 +29,5 @@ returns c =
     let a = c.args in
     let e = c.contains.ensures in
     c.for_us-2.ensures
-    ∙ sym (address_own a.self a.buf.now a.list.now a.response.now (omega arith) _ e c.if-contains.false
+    ∙ sym (address_own a.self.now a.buf.now a.list.now a.response.now (omega arith) _ e c.if-contains.false
     c.if-unit-self.false)
