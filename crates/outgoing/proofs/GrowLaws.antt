@@ -51,9 +51,12 @@ module _ (m : Step Short Response) (r : Result ⊤ ErrorKind) (n : ℕ) (l : Lis
   goes_on f q = follow m f (was_done q)
 
   -- one that was refused ends the call
+  pub was_refused : (k : ErrorKind) → r ≡ Err k → m ≡ stop (short k (response n l))
+  was_refused k q = stopped m k n l (as_said (Err k) q)
+
   pub ends_there : (f : Response → Step Short Response) (k : ErrorKind) → r ≡ Err k
       → (m >>= f) ≡ stop (short k (response n l))
-  ends_there f k q = halt m f (stopped m k n l (as_said (Err k) q))
+  ends_there f k q = halt m f (was_refused k q)
 
 -- a refusal that `?` hands on, where the definition ends so
 pub handed : (r : Result ⊤ ErrorKind) {m : Step Short Response} {k : ErrorKind} {n : ℕ} {l : List ℕ} → IsErrAnd r (λ e. e ≡ k)
