@@ -79,10 +79,7 @@ fn index(buf: &[u8], start: usize, first: usize, end: usize) -> Result<(), Error
     if usize::MAX - first < start {
         return Err(ErrorKind::OOB);
     }
-    if buf.len() < end {
-        return Err(ErrorKind::FrameBroken);
-    }
-    if buf.len() - end < start {
+    if buf.len() < end || buf.len() - end < start {
         return Err(ErrorKind::FrameBroken);
     }
     Ok(())

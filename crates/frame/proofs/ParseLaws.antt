@@ -206,22 +206,21 @@ module _ (s : ModbusFrame) (buf list out : List ℕ) where
   -- b is what the code says of the list
   module _ (h : s.frame_start < length buf) (b : Bool)
       (e : b ≡ choose (listed? (unit_byte s buf) list) true false) where
-    pub address_broadcast : b ≡ true → addressed s buf list out ≡ ended (for_us true s buf out)
+    pub address_broadcast : b ≡ true → addressed s buf list out ≡ ended (for_us b s buf out)
     unfolding addressed
     address_broadcast t =
         ap ended (pass _ _ _ h ∙ pass _ _ _ (inl (holds _ b e t)))
-        ∙ ap (λ (x : Bool). ended (for_us x s buf out)) (sym e ∙ t)
+        ∙ ap (λ (x : Bool). ended (for_us x s buf out)) (sym e)
 
     pub address_foreign : b ≡ false → ¬ (unit_byte s buf ≡ s.unit_id) → addressed s buf list out ≡ well s out
     unfolding addressed
     address_foreign t n = ap ended (pass _ _ _ h ∙ fail _ _ _ (⊎_elim (holds_not _ b e t) n))
 
-    pub address_own : b ≡ false → unit_byte s buf ≡ s.unit_id
-        → addressed s buf list out ≡ ended (for_us false s buf out)
+    pub address_own : unit_byte s buf ≡ s.unit_id → addressed s buf list out ≡ ended (for_us b s buf out)
     unfolding addressed
-    address_own t u =
+    address_own u =
         ap ended (pass _ _ _ h ∙ pass _ _ _ (inr u))
-        ∙ ap (λ (x : Bool). ended (for_us x s buf out)) (sym e ∙ t)
+        ∙ ap (λ (x : Bool). ended (for_us x s buf out)) (sym e)
 
 -- ---- the start
 

@@ -29,13 +29,11 @@ impl ModbusFrame {
             return Err(ErrorKind::FrameBroken);
         }
         let unit = buf[self.frame_start];
-        if contains(list, unit) {
-            return self.for_us(true, buf, response);
-        }
-        if unit != self.unit_id {
+        let broadcast = contains(list, unit);
+        if !broadcast && unit != self.unit_id {
             return Ok(());
         }
-        self.for_us(false, buf, response)
+        self.for_us(broadcast, buf, response)
     }
 
     fn for_us(&mut self, broadcast: bool, buf: &[u8], response: &mut [u8]) -> Result<(), ErrorKind>
@@ -196,11 +194,7 @@ impl ModbusFrame {
         let start = self.frame_start;
         self.answer(broadcast);
         self.count = word(buf, start + 4);
-        if most < self.count {
-            self.error = Some(3);
-            return;
-        }
-        if 246 < buf[start + 6] {
+        if most < self.count || 246 < buf[start + 6] {
             self.error = Some(3);
             return;
         }

@@ -41,15 +41,7 @@ fn unsettable(proto: ModbusProto, data_len: usize, room: usize, len: usize) -> b
     }
     match proto {
         ModbusProto::Rtu | ModbusProto::Ascii => false,
-        ModbusProto::TcpUdp => {
-            if 65535 < data_len {
-                return true;
-            }
-            if room - len < 2 {
-                return true;
-            }
-            false
-        }
+        ModbusProto::TcpUdp => { 65535 < data_len || room - len < 2 }
     }
 }
 
@@ -138,10 +130,7 @@ pub fn except(
 ) -> Result<(), ErrorKind>
     ensures { grown_paper result len.new out.new ≡ growth (except proto unit function code (response len.old out.old)) }
 {
-    if out.len() < *len {
-        return Err(ErrorKind::OOB);
-    }
-    if 127 < function {
+    if out.len() < *len || 127 < function {
         return Err(ErrorKind::OOB);
     }
     match proto {

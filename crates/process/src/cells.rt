@@ -31,10 +31,7 @@ pub fn illegal(of: CellKind, value: u16) -> bool
 pub fn data_behind(buf: &[u8], start: usize) -> Result<usize, ErrorKind>
     ensures { paper result ≡ told (data_behind buf.now start) }
 {
-    if buf.len() < start {
-        return Err(ErrorKind::FrameBroken);
-    }
-    if buf.len() - start < 7 {
+    if buf.len() < start || buf.len() - start < 7 {
         return Err(ErrorKind::FrameBroken);
     }
     let bytes = buf[start + 6] as usize;

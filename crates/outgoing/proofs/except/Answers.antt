@@ -7,12 +7,15 @@ use Rattle.modbus.specs.declared.ModbusProto.TheVariants.{Rtu, Ascii, TcpUdp}
 use Rattle.outgoing.specs.Grow.{growth}
 use Rattle.outgoing.proofs.WayLaws.{except_long, except_high, except_adds}
 use Rattle.outgoing.proofs.except.Goals as goal
+use Rattle.outgoing.proofs.except.Goals.{then-out-len-via-then-out-len, then-out-len-via-else-out-len+then-function-gt127}
 
 pub returns-then-out-len : goal.returns-then-out-len
-returns-then-out-len c = sym (ap growth (except_long _ _ _ _ _ _ (omega arith)))
-
-pub returns-then-function-gt127 : goal.returns-then-function-gt127
-returns-then-function-gt127 c = sym (ap growth (except_high _ _ _ _ _ _ (omega arith) (omega arith)))
+returns-then-out-len c =
+    elim c.then-out-len.branch [
+      then-out-len-via-then-out-len w ↦ sym (ap growth (except_long _ _ _ _ _ _ w.if-out-len.true))
+    | then-out-len-via-else-out-len+then-function-gt127 w ↦
+        sym (ap growth (except_high _ _ _ _ _ _ w.if-out-len.false w.if-function-gt127.true))
+    ]
 
 pub returns-in-Rtu : goal.returns-in-Rtu
 returns-in-Rtu c =
