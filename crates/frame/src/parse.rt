@@ -97,7 +97,9 @@ impl ModbusFrame {
             ModbusFunction::GetHoldings | ModbusFunction::GetInputs => {
                 self.request_read(125, broadcast, buf)
             }
-            ModbusFunction::SetCoil | ModbusFunction::SetHolding => self.request_one(broadcast, buf),
+            ModbusFunction::SetCoil | ModbusFunction::SetHolding => self.request_one(
+                broadcast, buf,
+            ),
             ModbusFunction::SetCoilsBulk => self.request_many(1968, broadcast, given, buf),
             ModbusFunction::SetHoldingsBulk => self.request_many(123, broadcast, given, buf),
         }

@@ -8,7 +8,7 @@ use lib.ListN.{length}
 use lib.Seq.{sets}
 use Rattle.std.specs.Prelude.{IsErrAnd, Result, Ok, Err, ⊤}
 use Rattle.modbus.specs.Step.{Step, stop, go, ◌>>=◌}
-use Rattle.modbus.specs.Paper.{number, told_with, done_paper, paper}
+use Rattle.modbus.specs.Paper.{number, told_with, paper}
 use Rattle.modbus.specs.declared.ErrorKind.{ErrorKind}
 use Rattle.modbus.specs.declared.ErrorKind.TheVariants.{OOB}
 use Rattle.modbus.proofs.PaperLaws.{number_some, handed_on, value_with, refusal_with}

@@ -13,7 +13,7 @@ pub fn data_bytes(of: CellKind, count: u16) -> u16
 {
     match of {
         CellKind::Bits => count.div_ceil(8),
-        CellKind::Words => (count % 32768) * 2,
+        CellKind::Words => count.wrapping_mul(2),
     }
 }
 

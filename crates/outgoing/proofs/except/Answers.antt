@@ -12,9 +12,9 @@ use Rattle.outgoing.proofs.except.Goals.{then-out-len-via-then-out-len, then-out
 pub returns-then-out-len : goal.returns-then-out-len
 returns-then-out-len c =
     elim c.then-out-len.branch [
-      then-out-len-via-then-out-len w ↦ sym (ap growth (except_long _ _ _ _ _ _ w.if-out-len.true))
-    | then-out-len-via-else-out-len+then-function-gt127 w ↦
-        sym (ap growth (except_high _ _ _ _ _ _ w.if-out-len.false w.if-function-gt127.true))
+      | then-out-len-via-then-out-len w ↦ sym (ap growth (except_long _ _ _ _ _ _ w.if-out-len.true))
+      | then-out-len-via-else-out-len+then-function-gt127 w ↦
+          sym (ap growth (except_high _ _ _ _ _ _ w.if-out-len.false w.if-function-gt127.true))
     ]
 
 pub returns-in-Rtu : goal.returns-in-Rtu

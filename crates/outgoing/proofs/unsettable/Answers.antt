@@ -25,6 +25,6 @@ returns-else-data_len-gt65535 c =
     let a = c.args in
     rw c.in-TcpUdp.is
     elim (leb_tells (suc (a.room - a.len)) 2) [
-      inl p ↦ rw p.0 (sym (pick_no _ _ _ (λ h. omega (arith, h.1))))
-    | inr p ↦ rw p.0 (sym (pick_yes _ _ _ (omega arith, omega arith)))
+      | inl p ↦ rw p.0 (sym (pick_no _ _ _ (λ h. omega (arith, h.1))))
+      | inr p ↦ rw p.0 (sym (pick_yes _ _ _ (omega arith, omega arith)))
     ]

@@ -9,11 +9,11 @@ pub returns-then-most-self : goal.returns-then-most-self
 returns-then-most-self c out =
     let a = c.args in
     elim c.then-most-self.branch [
-      then-most-self-via-then-most-self w ↦
-        sym (many_excess a.most a.broadcast a.self.now a.buf.now out _ c.word-self.ensures _ c.answer.ensures w.if-most-self.true)
-    | then-most-self-via-else-most-self+then-buf-start-gt246 w ↦
-        sym (many_long a.most a.broadcast a.self.now a.buf.now out _ c.word-self.ensures _ c.answer.ensures w.if-most-self.false
-        w.if-buf-start-gt246.true)
+      | then-most-self-via-then-most-self w ↦
+          sym (many_excess a.most a.broadcast a.self.now a.buf.now out _ c.word-self.ensures _ c.answer.ensures w.if-most-self.true)
+      | then-most-self-via-else-most-self+then-buf-start-gt246 w ↦
+          sym (many_long a.most a.broadcast a.self.now a.buf.now out _ c.word-self.ensures _ c.answer.ensures w.if-most-self.false
+          w.if-buf-start-gt246.true)
     ]
 
 pub returns : goal.returns

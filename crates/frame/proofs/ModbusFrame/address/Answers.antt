@@ -23,8 +23,8 @@ returns c =
     let e = c.contains-broadcast.ensures in
     c.for_us.ensures
     ∙ elim c.else-not-broadcast.branch [
-      else-not-broadcast-via-then-not-broadcast+else-unit-self w ↦
-        sym (address_own a.self.now a.buf.now a.list.now a.response.now c.if-buf-self.false _ e w.if-unit-self.false)
-    | else-not-broadcast-via-else-not-broadcast w ↦
-        sym (address_broadcast a.self.now a.buf.now a.list.now a.response.now c.if-buf-self.false _ e w.if-not-broadcast.false)
+      | else-not-broadcast-via-then-not-broadcast+else-unit-self w ↦
+          sym (address_own a.self.now a.buf.now a.list.now a.response.now c.if-buf-self.false _ e w.if-unit-self.false)
+      | else-not-broadcast-via-else-not-broadcast w ↦
+          sym (address_broadcast a.self.now a.buf.now a.list.now a.response.now c.if-buf-self.false _ e w.if-not-broadcast.false)
     ]

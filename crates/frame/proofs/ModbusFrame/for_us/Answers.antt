@@ -17,12 +17,12 @@ pub returns : goal.returns
 returns c =
     let a = c.args in
     elim c.if-copies_header.branch [
-      then-copies_header+in_ok-self w ↦
-        (let e = sym c.copies_header.ensures ∙ w.if-copies_header.true in
-        c.name.ensures _
-        ∙ rw (w.self-is, w.response-is) (sym (us_headed a.broadcast a.self.now a.buf.now a.response.now e _ _ w.extend.ensures _ w.in_ok-self.was)))
-    | else-copies_header w ↦
-        (let e = sym c.copies_header.ensures ∙ w.if-copies_header.false in
-        c.name.ensures _
-        ∙ rw (w.self-is, w.response-is) (sym (us_bare a.broadcast a.self.now a.buf.now a.response.now e c.requires.2)))
+      | then-copies_header+in_ok-self w ↦
+          (let e = sym c.copies_header.ensures ∙ w.if-copies_header.true in
+          c.name.ensures _
+          ∙ rw (w.self-is, w.response-is) (sym (us_headed a.broadcast a.self.now a.buf.now a.response.now e _ _ w.extend.ensures _ w.in_ok-self.was)))
+      | else-copies_header w ↦
+          (let e = sym c.copies_header.ensures ∙ w.if-copies_header.false in
+          c.name.ensures _
+          ∙ rw (w.self-is, w.response-is) (sym (us_bare a.broadcast a.self.now a.buf.now a.response.now e c.requires.2)))
     ]
