@@ -5,20 +5,17 @@ use mathlib.Core.List.{List}
 use Prim.Native.Nat.{ℕ, zero, suc, ◌≤◌, ◌<◌}
 use native.Mathlib.Omega.{arith}
 use lib.ListN.{length}
-use Rattle.std.specs.Prelude.{Option, Some, None, Result, Ok, Err, ⊤}
+use Rattle.std.specs.Prelude.{Option, Some, None, Err}
 use Rattle.modbus.specs.Step.{stop, choose, ◌≟◌}
-use Rattle.modbus.specs.Ported.{Ported, reads, one, many}
-use Rattle.modbus.specs.Paper.{number, told_with, paper}
+use Rattle.modbus.specs.Paper.{number}
 use Rattle.modbus.specs.declared.ErrorKind.{ErrorKind}
 use Rattle.modbus.specs.declared.ErrorKind.TheVariants.{OOB, IllegalDataValue}
 use Rattle.modbus.proofs.StepLaws.{pick_yes, pick_no}
-use Rattle.modbus.proofs.PaperLaws.{told_same, value_with, refusal_with}
-use Rattle.response.specs.Bounded.{resized}
-use Rattle.frame.specs.State.{ported_of, grown, with_error, After, well, refused, ended, left_paper}
-use Rattle.external.specs.External.{len_to_leave, resized_to, error_set, kind_code, report_code, error_set_if_unset}
-use Rattle.external.specs.External.{read_done, write_done, failed_by}
+use Rattle.modbus.proofs.PaperLaws.{told_same}
+use Rattle.frame.specs.State.{After, well, refused, ended}
+use Rattle.external.specs.External.{error_set, kind_code, report_code, error_set_if_unset}
+use Rattle.external.specs.External.{failed_by}
 use Rattle.external.specs.Answers.{coded}
-use Rattle.frame.specs.declared.ModbusFunction.{ModbusFunction}
 use Rattle.frame.specs.declared.ModbusFrame.{ModbusFrame}
 use Rattle.external.specs.declared.Failure.{Failure}
 use Rattle.external.specs.declared.Failure.TheVariants as failure
@@ -59,27 +56,6 @@ module _ {A : Type 0} (m : ℕ) (a : A) (f : ℕ → A) where
 
 -- ---- a Modbus error, where none is set
 
-pub error_stays : (c : ℕ) (s : ModbusFrame) (out : List ℕ) (d : ℕ) → s.error ≡ Some d
-    → error_set s.error c s out ≡ well s out
-error_stays c s out d q = ap (λ (x : Option ℕ). error_set x c s out) q
-
--- n is the length to leave, r and l what the bounded response answered and then held
-module _ (c : ℕ) (s : ModbusFrame) (out : List ℕ) (u : s.error ≡ None) (n : ℕ) (e : n ≡ len_to_leave s.proto)
-    (r : Result ℕ ErrorKind) (l : List ℕ)
-    (p : (paper r, l) ≡ told_with out (resized out s.response_len n 0)) where
-  set_by : error_set s.error c s out ≡ resized_to c s out (resized out s.response_len n 0)
-  set_by =
-      ap (λ (x : Option ℕ). error_set x c s out) u
-      ∙ ap (λ (m : ℕ). resized_to c s out (resized out s.response_len m 0)) (sym e)
-
-  pub error_full : (k : ErrorKind) → r ≡ Err k → error_set s.error c s out ≡ refused k s l
-  error_full k q =
-      let w = refusal_with out l (resized out s.response_len n 0) k (rw q at p) in
-      set_by ∙ ap (resized_to c s out) w.0 ∙ ap (refused k s) (sym w.1)
-
-  pub error_set_law : (m : ℕ) → r ≡ Ok m → error_set s.error c s out ≡ well (with_error c (grown m s)) l
-  error_set_law m q = set_by ∙ ap (resized_to c s out) (value_with out l (resized out s.response_len n 0) m (rw q at p))
-
 module _ (e : Reported) (s : ModbusFrame) (out : List ℕ) where
   pub unset_exceeds : length out < s.response_len → error_set_if_unset e s out ≡ refused OOB s out
   unfolding error_set_if_unset
@@ -103,13 +79,6 @@ module _ (k : ErrorKind) (s : ModbusFrame) (out : List ℕ) where
 
   pub fail_sets : (n : ℕ) → coded (kind_code k) ≡ Some n → failed_by k s out ≡ error_set s.error n s out
   fail_sets n q = some_code (kind_code k) _ (λ m. error_set s.error m s out) n q
-
-module _ (s : ModbusFrame) (f : ModbusFunction) (q : s.func ≡ f) where
-  pub read_done_by : (out : List ℕ) → read_done (ported_of f) s out ≡ read_done (ported_of s.func) s out
-  read_done_by out = ap (λ (x : ModbusFunction). read_done (ported_of x) s out) (sym q)
-
-  pub write_done_by : (buf out : List ℕ) → write_done (ported_of f) s buf out ≡ write_done (ported_of s.func) s buf out
-  write_done_by buf out = ap (λ (x : ModbusFunction). write_done (ported_of x) s buf out) (sym q)
 
 -- d is what is left of a request that was done
 module _ (e : Reported) (d : After) (s : ModbusFrame) (out : List ℕ) where

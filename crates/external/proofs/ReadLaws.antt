@@ -5,27 +5,24 @@ use mathlib.Core.List.{List, [], ◌∷◌}
 use Prim.Native.Nat.{ℕ, ◌+◌, ◌≤◌, ◌<◌}
 use native.Mathlib.Omega.{arith}
 use lib.ListN.{length}
-use Rattle.std.specs.Prelude.{IsErrAnd, Result, Ok, Err, ⊤}
+use Rattle.std.specs.Prelude.{IsErrAnd, Result, Ok, Err}
 use Rattle.modbus.specs.Step.{Step, stop, go, ◌≤?◌}
 use Rattle.modbus.specs.Table.{Kind}
-use Rattle.modbus.specs.Paper.{told_with, paper}
 use Rattle.modbus.specs.declared.ErrorKind.{ErrorKind}
 use Rattle.modbus.specs.declared.ErrorKind.TheVariants.{OOB}
 use Rattle.modbus.proofs.StepLaws.{pick_yes, pick_no}
-use Rattle.modbus.proofs.PaperLaws.{number_some, value_with, refusal_with, handed_on}
+use Rattle.modbus.proofs.PaperLaws.{number_some, handed_on}
 use Rattle.response.specs.Bounded.{resized}
 use Rattle.response.proofs.BoundedLaws.{resized_long, resized_full}
-use Rattle.outgoing.specs.Grow.{Response, response, Short, head}
-use Rattle.process.proofs.ProcessLaws.{grown_state, added_done, added_refused}
-use Rattle.frame.specs.State.{grown, After, refused, left_paper}
-use Rattle.process.specs.Process.{response_of, adding, data_bytes}
+use Rattle.outgoing.specs.Grow.{Response, Short, head}
+use Rattle.frame.specs.State.{grown, After, refused}
+use Rattle.process.specs.Process.{response_of, data_bytes}
 use Rattle.external.specs.External.{described, read_described, without}
 use Rattle.frame.specs.Changes.{kind_number}
 use Rattle.external.specs.External.{room_sized, roomed, room_told, wanted}
 use Rattle.external.specs.Answers.{room_paper}
 use Rattle.frame.specs.declared.ModbusFrame.{ModbusFrame}
 use Rattle.external.specs.declared.Read.{Read}
-use Rattle.outgoing.specs.Grow.{growth}
 
 -- ---- a refusal that `?` hands on
 
@@ -48,40 +45,6 @@ module _ (s : ModbusFrame) (out : List ℕ) (bytes : ℕ) where
       by : Dec (s.response_len ≤ length out) → lengthened ≡ stop OOB
       by (yes p) = resized_full out _ _ 0 p h
       by (no p) = resized_long out _ _ 0 (omega arith)
-
-  -- r and l are what the bounded response answered and then held
-  module _ (r : Result ℕ ErrorKind) (l : List ℕ) (p : (paper r, l) ≡ told_with out lengthened) where
-    pub room_refused : (k : ErrorKind) → r ≡ Err k → room ≡ room_paper (Err k) s l
-    room_refused k q =
-        let w = refusal_with out l lengthened k (rw q at p) in
-        ap (room_sized s (response_of s out)) w.0 ∙ ap (room_paper (Err k) s) (sym w.1)
-
-    pub room_made : (n : ℕ) → r ≡ Ok n → room ≡ room_paper (Ok s.response_len) (grown n s) l
-    room_made n q = ap (room_sized s (response_of s out)) (value_with out l lengthened n (rw q at p))
-
-regrown : (n : ℕ) (s : ModbusFrame) (r : Response) (m : Step ErrorKind (ℕ × List ℕ))
-    → room_sized s r m ≡ room_sized (grown n s) r m
-regrown n s r (stop k) = refl
-regrown n s r (go (i, l)) = refl
-
--- r, t and l are what the call that adds the response's head answered and left
-module _ (bytes : ℕ) (s : ModbusFrame) (buf out : List ℕ) (r : Result ⊤ ErrorKind) (t : ModbusFrame) (l : List ℕ)
-    (e : left_paper r t l ≡ adding s (growth (head s.proto buf s.frame_start bytes (response_of s out)))) where
-  abbrev headed : Step Short Response
-  headed = head s.proto buf s.frame_start bytes (response_of s out)
-
-  pub roomed_not : (k : ErrorKind) → r ≡ Err k → roomed bytes s headed ≡ room_paper (Err k) t l
-  roomed_not k q =
-      ap (roomed bytes s) (added_refused s headed r t l e k q)
-      ∙ ap (λ (u : ModbusFrame). room_paper (Err k) u l) (sym (grown_state s headed r t l e))
-
-  pub roomed_on : r ≡ Ok tt
-      → roomed bytes s headed ≡ room_sized t (response_of t l) (resized l t.response_len (t.response_len + bytes) 0)
-  roomed_on q =
-      ap (roomed bytes s) (added_done s headed r t l e q)
-      ∙ regrown t.response_len s (response_of t l) (resized l t.response_len (t.response_len + bytes) 0)
-      ∙ ap (λ (u : ModbusFrame). room_sized u (response_of t l) (resized l t.response_len (t.response_len + bytes) 0))
-      (sym (grown_state s headed r t l e))
 
 -- but for its response, the state stays
 abbrev kept : ModbusFrame → After × ℕ → Type 0

@@ -90,6 +90,3 @@ module _ (len : ℕ) (out : List ℕ) where
       → add d (response len out) ≡ go (response (len + length d) (sets out len d))
   unfolding or_short
   add_fits d h = ap (or_short (response len out)) (extended_fits out len d h)
-
-  pub add_nothing : len ≤ length out → add [] (response len out) ≡ go (response len out)
-  add_nothing h = add_fits [] (omega arith) ∙ ap (λ (n : ℕ). go (response n out)) (omega arith)

@@ -76,9 +76,6 @@ module _ (S : Storage) (table : List ℕ) (cells : ℕ) (s : ModbusFrame) (buf o
         ap (λ (u : ModbusFrame). data_added u l (added S table cells u.reg u.count l u.response_len)) (grown_state s _ r t l e)
         ∙ read_came _ (added_done s _ r t l e q)
 
-    pub read_data : (n : ℕ) → a ≡ Ok n → well (grown n t) m ≡ table_read S table cells s buf out
-    read_data n p = sym (ap (data_added t l) (value_with l m _ n (rw p at f))) ∙ data_came
-
     -- a refusal leaves the slice
     refused_came : (k : ErrorKind) → a ≡ Err k
         → choose (number k ≟ number OOBContext) (well (with_error 2 (grown (t.response_len - 5) t)) m) (refused k t m)
@@ -122,16 +119,6 @@ confirms s buf out table m (Err k) x e =
     rw (p.0, p.1) refl
 
 -- ---- a write of one
-
-coil_value : (v : ℕ) → Legal bit v → digit_of (eqb v 0xFF00) ≡ value_of bit v
-coil_value v (inl e) = rw e refl
-coil_value v (inr e) = rw e refl
-
--- a coil is on or off
-pub coil_set : (table : List ℕ) (cells reg v : ℕ) → Legal bit v
-    → told_with table (changed packed table cells reg (digit_of (eqb v 0xFF00)))
-    ≡ told_with table (changed packed table cells reg (value_of bit v))
-coil_set table cells reg v h = ap (λ (n : ℕ). told_with table (changed packed table cells reg n)) (coil_value v h)
 
 -- r is what the code answered for the frame's bytes
 module _ (k : Kind) (table : List ℕ) (cells : ℕ) (s : ModbusFrame) (buf out : List ℕ) (r : Result ⊤ ErrorKind)

@@ -13,8 +13,8 @@ returns-then-first-start c = sym (ap told (indexed_far _ _ _ _ (omega arith)))
 pub returns-then-buf-end : goal.returns-then-buf-end
 returns-then-buf-end c =
     elim c.then-buf-end.branch [
-      then-buf-end-via-then-buf-end w ↦ sym (ap told (indexed_beyond _ _ _ _ (omega arith) (omega arith)))
-    | then-buf-end-via-else-buf-end+then-buf-end-2 w ↦ sym (ap told (indexed_beyond _ _ _ _ (omega arith) (omega arith)))
+      | then-buf-end-via-then-buf-end w ↦ sym (ap told (indexed_beyond _ _ _ _ (omega arith) (omega arith)))
+      | then-buf-end-via-else-buf-end+then-buf-end-2 w ↦ sym (ap told (indexed_beyond _ _ _ _ (omega arith) (omega arith)))
     ]
 
 pub returns : goal.returns
