@@ -25,7 +25,7 @@ use Rattle.incoming.proofs.EnvelopeLaws.{tcp_begun}
 use Rattle.frame.specs.State.{ported_of, function_paper, function_of, started, grown, responding_to, with_func, with_error, answering, counting, to_process, After, well, refused, ended}
 use Rattle.frame.specs.Parse.{or_leave, answered, first_word, second_word, byte_count, read_accepted, read_parsed, one_parsed, many_accepted, many_parsed, requested, unsupported, function_byte, function_named, header, copies_header, Headed, for_us, unit_byte, addressed, frame_parsed}
 use Rattle.frame.specs.declared.ModbusFunction.{ModbusFunction}
-use Rattle.frame.specs.declared.FunctionAnswer.TheVariants.{Value, Unsupported}
+use Rattle.frame.specs.declared.Unsupported.{Unsupported}
 use Rattle.frame.specs.declared.ModbusFrame.{ModbusFrame}
 use Rattle.frame.proofs.StateLaws.{fn_back, function_found, function_missing}
 
@@ -141,12 +141,12 @@ module _ (broadcast : Bool) (s : ModbusFrame) (buf out : List ℕ) where
   named_short h = ap ended (fail _ _ _ (λ (k : s.frame_start + 2 ≤ length buf). omega arith))
 
   module _ (h : s.frame_start + 2 ≤ length buf) where
-    pub named_unsupported : function_of (function_byte s buf) ≡ function_paper Unsupported
+    pub named_unsupported : (u : Unsupported) → function_of (function_byte s buf) ≡ function_paper (Err u)
         → function_named broadcast s buf out ≡ well (unsupported broadcast (responding_to (function_byte s buf) s)) out
     unfolding function_named
-    named_unsupported e = ap ended (pass _ _ _ h ∙ halt _ _ (find_none _ _ _ (function_missing _ e) _))
+    named_unsupported u e = ap ended (pass _ _ _ h ∙ halt _ _ (find_none _ _ _ (function_missing _ u e) _))
 
-    pub named_supported : (f : ModbusFunction) → function_of (function_byte s buf) ≡ function_paper (Value f)
+    pub named_supported : (f : ModbusFunction) → function_of (function_byte s buf) ≡ function_paper (Ok f)
         → (t : ModbusFrame) → t ≡ with_func f (responding_to (function_byte s buf) s)
         → function_named broadcast s buf out ≡ ended (requested (ported_of f) broadcast s t buf out)
     unfolding function_named
@@ -206,22 +206,21 @@ module _ (s : ModbusFrame) (buf list out : List ℕ) where
   -- b is what the code says of the list
   module _ (h : s.frame_start < length buf) (b : Bool)
       (e : b ≡ choose (listed? (unit_byte s buf) list) true false) where
-    pub address_broadcast : b ≡ true → addressed s buf list out ≡ ended (for_us true s buf out)
+    pub address_broadcast : b ≡ true → addressed s buf list out ≡ ended (for_us b s buf out)
     unfolding addressed
     address_broadcast t =
         ap ended (pass _ _ _ h ∙ pass _ _ _ (inl (holds _ b e t)))
-        ∙ ap (λ (x : Bool). ended (for_us x s buf out)) (sym e ∙ t)
+        ∙ ap (λ (x : Bool). ended (for_us x s buf out)) (sym e)
 
     pub address_foreign : b ≡ false → ¬ (unit_byte s buf ≡ s.unit_id) → addressed s buf list out ≡ well s out
     unfolding addressed
     address_foreign t n = ap ended (pass _ _ _ h ∙ fail _ _ _ (⊎_elim (holds_not _ b e t) n))
 
-    pub address_own : b ≡ false → unit_byte s buf ≡ s.unit_id
-        → addressed s buf list out ≡ ended (for_us false s buf out)
+    pub address_own : unit_byte s buf ≡ s.unit_id → addressed s buf list out ≡ ended (for_us b s buf out)
     unfolding addressed
-    address_own t u =
+    address_own u =
         ap ended (pass _ _ _ h ∙ pass _ _ _ (inr u))
-        ∙ ap (λ (x : Bool). ended (for_us x s buf out)) (sym e ∙ t)
+        ∙ ap (λ (x : Bool). ended (for_us x s buf out)) (sym e)
 
 -- ---- the start
 

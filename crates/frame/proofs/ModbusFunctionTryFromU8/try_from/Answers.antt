@@ -1,4 +1,4 @@
--- `frame::function_of` meets its contract: each arm is a function's number, and the rest is none.
+-- `ModbusFunction::try_from`: each arm is a function's number, and the rest is none.
 -- Assumes nothing.
 use mathlib.Core.Path.{sym}
 use native.Mathlib.Omega.{arith}
@@ -6,7 +6,7 @@ use Rattle.modbus.specs.Table.{coils, discretes, holdings, inputs, bit, word}
 use Rattle.modbus.specs.Ported.{reads, one, many}
 use Rattle.modbus.proofs.FindLaws.{none_ported}
 use Rattle.frame.proofs.StateLaws.{function_known, function_none}
-use Rattle.frame.proofs.function_of.Goals as goal
+use Rattle.frame.proofs.ModbusFunctionTryFromU8.try_from.Goals as goal
 
 pub returns-in-1 : goal.returns-in-1
 returns-in-1 c = sym (function_known _ (reads coils) c.in-1.is)
@@ -34,4 +34,4 @@ returns-in-16 c = sym (function_known _ (many word) c.in-16.is)
 
 pub returns-in_default : goal.returns-in_default
 returns-in_default c =
-    sym (function_none _ (none_ported _ (omega arith) (omega arith) (omega arith) (omega arith) (omega arith) (omega arith) (omega arith) (omega arith)))
+    sym (function_none _ _ (none_ported _ (omega arith) (omega arith) (omega arith) (omega arith) (omega arith) (omega arith) (omega arith) (omega arith)))
