@@ -19,7 +19,7 @@
 //   Before the call byte i of the lent response behind its front is (0x5A + i) % 256.
 ghost use Rattle.std.specs.Prelude.{◌≤◌, ◌<◌};
 
-use crate::fields::{part, whole};
+use crate::fields::{LAYOUT, part};
 use crate::said::{bare, changes, left, read_left, reported, write_left};
 use crate::state::state;
 use frame::ModbusFrame;
@@ -198,7 +198,7 @@ fn served(record: &[u8], bits: &mut [u8], words: &mut [u8], lent: &mut [u8]) -> 
 
 // Whether all comes out as the record says.
 pub(crate) fn agrees(record: &[u8], bits: &mut [u8], words: &mut [u8], lent: &mut [u8]) -> bool {
-    if !whole(record) {
+    if !LAYOUT.is_whole(record) {
         return false;
     }
     let m = part(record, 3).len();

@@ -8,54 +8,22 @@ mod fields;
 mod said;
 mod state;
 
-use records::Tally;
-use std::io::{Stdin, Stdout};
-
-// A proved loop has to end, and nothing says that the list does. So the loop counts its turns, up to a number that no
-// list reaches.
-fn run(
-    input: Stdin,
-    out: Stdout,
-    text: &mut [u8],
-    record: &mut [u8],
-    bits: &mut [u8],
-    words: &mut [u8],
-    lent: &mut [u8],
-) -> Tally {
-    let mut s = records::start();
-    let mut t = Tally {
-        records: 0,
-        wrong: 0,
-    };
-    for _ in 0..1000000000u32 {
-        s = records::next(input, text, record, s);
-        if !s.whole {
-            return t;
-        }
-        let len = s.len;
-        t = records::judged(out, t, calls::agrees(&record[..len], bits, words, lent));
-    }
-    t
-}
+// No list has so many records.
+const MOST: u32 = 1000000000;
 
 fn main(rt: HostRuntime) {
-    let mut text = [0; 4096];
-    let mut record = [0; 4096];
     let mut lent = [0; 4096];
     let mut bits = [0; calls::BITS];
     let mut words = [0; calls::WORDS];
-    let t = run(
+    let tally = records::run(
         rt.stdin(),
         rt.stdout(),
-        &mut text,
-        &mut record,
-        &mut bits,
-        &mut words,
-        &mut lent,
+        MOST,
+        |record| calls::agrees(record, &mut bits, &mut words, &mut lent),
     );
     records::report(
         rt.stdout(),
-        t,
+        tally,
         b"calls of the frame replayed: ",
         b"calls that differ: ",
     );
