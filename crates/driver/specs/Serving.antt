@@ -1,6 +1,6 @@
 -- A verdict as it is carried out, before its reply is put into a frame: for the contracts of private functions.
 -- Assumes nothing.
-use Rattle.std.specs.Prelude.{Bool, true, false, ◌≡◌, List, [], ◌∷◌, ℕ, zero, suc, ◌+◌, ◌*◌, ◌/◌, ◌%◌, ◌≤◌, length, take, drop, get_or}
+use Rattle.std.specs.Prelude.{Bool, true, false, ◌≡◌, List, [], ◌∷◌, Option, None, Some, Ok, Err, ℕ, zero, suc, ◌+◌, ◌*◌, ◌/◌, ◌%◌, ◌≤◌, length, take, drop, get_or}
 use Rattle.std.proofs.lemmas.List.Edits.{sets}
 use Rattle.modbus.specs.Table.{Kind, bit, word, Tab, coils, discretes, holdings, inputs, kind_of, target, Range, part}
 use Rattle.modbus.specs.Request.{tab_of, octets, masked, shown, exception, most_read}
@@ -16,8 +16,9 @@ use Rattle.requests.specs.declared.Mask.{Mask}
 use Rattle.requests.specs.declared.Exchange.{Exchange}
 use Rattle.requests.specs.declared.Write.{Write}
 use Rattle.requests.specs.declared.Write.TheVariants.{Bits, Words}
-use Rattle.requests.specs.declared.Verdict.{Verdict}
-use Rattle.requests.specs.declared.Verdict.TheVariants.{Read, Written, Masked, Exchanged, Refused, Quiet}
+use Rattle.requests.specs.declared.Request.TheVariants as request
+use Rattle.requests.specs.declared.Code.{Code}
+use Rattle.requests.specs.Judged.{Verdict, refusal_paper, code_number, spoken}
 use Rattle.driver.specs.declared.Setup.{Setup as Numbers}
 use Rattle.driver.specs.declared.Driven.{Driven}
 use Rattle.driver.specs.Driven.{Call, setup_of, making, resulting, Leaves, settled}
@@ -61,14 +62,17 @@ pub record BothReady (l : Lent) (b : List ℕ) (x : Exchange) : Type 0 where
   pub within : x.write_address + x.write_count ≤ l.holding_cells
   pub held : 11 + 2 * x.write_count ≤ length b
 
+abbrev pub SaysReady : List ℕ → Option Code → Type 0
+SaysReady b None = Unit {0}
+SaysReady b (Some c) = (2 ≤ length b) × (get_or b 1 0 ≤ 127)
+
 abbrev pub Ready : Lent → List ℕ → Verdict → Type 0
-Ready l b (Read q) = ReadReady l b q
-Ready l b (Written (Bits c)) = WriteReady bit l b c
-Ready l b (Written (Words c)) = WriteReady word l b c
-Ready l b (Masked m) = MaskReady l b m
-Ready l b (Exchanged x) = BothReady l b x
-Ready l b (Refused c) = (2 ≤ length b) × (get_or b 1 0 ≤ 127)
-Ready l b (Quiet o c) = Unit {0}
+Ready l b (Ok (request.Read q)) = ReadReady l b q
+Ready l b (Ok (request.Write (Bits c))) = WriteReady bit l b c
+Ready l b (Ok (request.Write (Words c))) = WriteReady word l b c
+Ready l b (Ok (request.Mask m)) = MaskReady l b m
+Ready l b (Ok (request.Exchange x)) = BothReady l b x
+Ready l b (Err r) = SaysReady b (spoken r)
 
 -- ---- what it tells: outcome, code and the cells that it writes
 
@@ -88,13 +92,12 @@ abbrev pub run : Tab → ℕ → ℕ → List Range
 run t first count = record { tab = t; first = first; count = count } ∷ []
 
 abbrev pub telling : Bool → Verdict → Telling
-telling broadcast (Read q) = tells 0 0 []
-telling broadcast (Written (Bits c)) = tells (done_by broadcast) 0 (run coils c.address c.count)
-telling broadcast (Written (Words c)) = tells (done_by broadcast) 0 (run holdings c.address c.count)
-telling broadcast (Masked m) = tells (done_by broadcast) 0 (run holdings m.address 1)
-telling broadcast (Exchanged x) = tells 0 0 (run holdings x.write_address x.write_count)
-telling broadcast (Refused c) = tells 2 c []
-telling broadcast (Quiet o c) = tells o c []
+telling broadcast (Ok (request.Read q)) = tells 0 0 []
+telling broadcast (Ok (request.Write (Bits c))) = tells (done_by broadcast) 0 (run coils c.address c.count)
+telling broadcast (Ok (request.Write (Words c))) = tells (done_by broadcast) 0 (run holdings c.address c.count)
+telling broadcast (Ok (request.Mask m)) = tells (done_by broadcast) 0 (run holdings m.address 1)
+telling broadcast (Ok (request.Exchange x)) = tells 0 0 (run holdings x.write_address x.write_count)
+telling broadcast (Err r) = tells (refusal_paper r).0 (refusal_paper r).2 []
 
 -- the result, once the length of the reply is known
 abbrev pub result_by : Telling → ℕ → Driven
@@ -153,13 +156,16 @@ pub record Turn : Type 0 where
 abbrev pub turn : List ℕ → List ℕ → List ℕ → Turn
 turn b c h = record { body = b; coil_bytes = c; holding_bytes = h }
 
+abbrev pub saying : List ℕ → Option Code → List ℕ
+saying b None = []
+saying b (Some c) = get_or b 0 0 ∷ exception (get_or b 1 0) (code_number c)
+
 abbrev pub serving : Lent → Bool → List ℕ → Verdict → Turn
-serving l broadcast b (Read q) = turn (read_body l (tab_of q.function) b q.address q.count) l.coil_bytes l.holding_bytes
-serving l broadcast b (Written w) = turn (echoed broadcast 6 b) (coils_by w b l.coil_bytes) (holdings_by w b l.holding_bytes)
-serving l broadcast b (Masked m) = turn (echoed broadcast 8 b) l.coil_bytes (masked_by m l.holding_bytes)
-serving l broadcast b (Exchanged x) = turn (swap_body x b l.holding_bytes) l.coil_bytes (swapped_by x b l.holding_bytes)
-serving l broadcast b (Refused c) = turn (get_or b 0 0 ∷ exception (get_or b 1 0) c) l.coil_bytes l.holding_bytes
-serving l broadcast b (Quiet o c) = turn [] l.coil_bytes l.holding_bytes
+serving l broadcast b (Ok (request.Read q)) = turn (read_body l (tab_of q.function) b q.address q.count) l.coil_bytes l.holding_bytes
+serving l broadcast b (Ok (request.Write w)) = turn (echoed broadcast 6 b) (coils_by w b l.coil_bytes) (holdings_by w b l.holding_bytes)
+serving l broadcast b (Ok (request.Mask m)) = turn (echoed broadcast 8 b) l.coil_bytes (masked_by m l.holding_bytes)
+serving l broadcast b (Ok (request.Exchange x)) = turn (swap_body x b l.holding_bytes) l.coil_bytes (swapped_by x b l.holding_bytes)
+serving l broadcast b (Err r) = turn (saying b (spoken r)) l.coil_bytes l.holding_bytes
 
 -- the reply's body laid into the reply from its start on, and its length
 pub record Laid : Type 0 where

@@ -18,7 +18,7 @@ use close::close;
 use judge::{judge, listed};
 use open::{bad_setup, no_room};
 use serve::serve;
-use tell::{result, tell};
+use tell::result;
 use transports::{body_source, open, start_of};
 
 // The setup's numbers: the transport (0 RTU, 1 ASCII, 2 TCP), our unit number on it, the switch for digits a-f of ASCII frames (0 strict, 1
@@ -70,8 +70,7 @@ fn handle(
 {
     let broadcast = listed(list, body[0]);
     let verdict = judge(setup, broadcast, body);
-    let told = tell(verdict, broadcast);
-    let n = serve(
+    let (told, n) = serve(
         verdict, broadcast, setup, body, coils, discretes, holdings, inputs, reply, start,
     );
     let sent = close(setup.transport, n, frame, reply);

@@ -3,7 +3,7 @@
 use mathlib.Core.Path.{◌≡◌, refl, sym, ◌∙◌}
 use mathlib.Core.Bool.{cond}
 use mathlib.Core.List.{List, [], ◌∷◌}
-use Rattle.std.specs.Prelude.{None, Some, Ok, Err}
+use Rattle.std.specs.Prelude.{Ok, Err}
 use lib.Dec.{eqb}
 use Rattle.modbus.specs.Table.{coils, discretes, holdings, inputs, Sizes}
 use Rattle.modbus.specs.Setup.{Setup}
@@ -15,7 +15,7 @@ use Rattle.requests.specs.declared.Request.TheVariants as request
 use Rattle.requests.specs.declared.Code.{Code}
 use Rattle.requests.specs.declared.Code.TheVariants.{IllegalFunction, IllegalDataAddress, IllegalDataValue}
 use Rattle.requests.specs.declared.Refusal.{Refusal}
-use Rattle.requests.specs.declared.Refusal.TheVariants.{Exception, Ignored, Foreign, FrameBroken, FrameCheck, WrongLength, BadFunction, NoRoom, BadSetup}
+use Rattle.requests.specs.declared.Refusal.TheVariants.{Exception, Ignored, ReadIgnored, Foreign, FrameBroken, FrameCheck, WrongLength, BadFunction, NoRoom, BadSetup}
 use Rattle.requests.proofs.judge.Kinds as judge-kinds
 use Rattle.requests.proofs.judge.Reads as judge-reads
 
@@ -26,7 +26,7 @@ code_back n = cond (eqb n 1) IllegalFunction (cond (eqb n 2) IllegalDataAddress 
 
 abbrev refusal_back : ℕ → ℕ → Refusal
 refusal_back o c =
-    cond (eqb o 2) (Exception (code_back c)) (cond (eqb o 3) (Ignored (cond (eqb c 0) None (Some (code_back c)))) (cond (eqb o 4) Foreign
+    cond (eqb o 2) (Exception (code_back c)) (cond (eqb o 3) (cond (eqb c 0) ReadIgnored (Ignored (code_back c))) (cond (eqb o 4) Foreign
     (cond (eqb o 5) FrameBroken (cond (eqb o 6) FrameCheck (cond (eqb o 7) WrongLength (cond (eqb o 8) BadFunction (cond (eqb o 9) NoRoom BadSetup)))))))
 
 abbrev verdict_back : List ℕ → Verdict
@@ -50,10 +50,10 @@ verdict_back_law (Ok (request.Exchange x)) = refl
 verdict_back_law (Err (Exception IllegalFunction)) = refl
 verdict_back_law (Err (Exception IllegalDataAddress)) = refl
 verdict_back_law (Err (Exception IllegalDataValue)) = refl
-verdict_back_law (Err (Ignored None)) = refl
-verdict_back_law (Err (Ignored (Some IllegalFunction))) = refl
-verdict_back_law (Err (Ignored (Some IllegalDataAddress))) = refl
-verdict_back_law (Err (Ignored (Some IllegalDataValue))) = refl
+verdict_back_law (Err ReadIgnored) = refl
+verdict_back_law (Err (Ignored IllegalFunction)) = refl
+verdict_back_law (Err (Ignored IllegalDataAddress)) = refl
+verdict_back_law (Err (Ignored IllegalDataValue)) = refl
 verdict_back_law (Err Foreign) = refl
 verdict_back_law (Err FrameBroken) = refl
 verdict_back_law (Err FrameCheck) = refl

@@ -1,6 +1,6 @@
 -- What a body comes to, as the driver keeps it: what its first fault becomes, and the cells that a request names.
 -- Assumes nothing.
-use Rattle.std.specs.Prelude.{Bool, true, false, List, [], ◌∷◌, ℕ, zero, suc, ◌+◌, length, None, Some, Result, Ok, Err}
+use Rattle.std.specs.Prelude.{Option, Bool, true, false, List, [], ◌∷◌, ℕ, zero, suc, ◌+◌, length, None, Some, Result, Ok, Err}
 use Rattle.modbus.specs.Step.{Step, stop, go, choose, ◌≤?◌}
 use Rattle.modbus.specs.Table.{Kind, bit, word}
 use Rattle.modbus.specs.Request.{reads, mask, both, code, Ask, read, write, writes, masks, swaps}
@@ -15,7 +15,7 @@ use Rattle.requests.specs.declared.Request.TheVariants as request
 use Rattle.requests.specs.declared.Code.{Code}
 use Rattle.requests.specs.declared.Code.TheVariants.{IllegalFunction, IllegalDataAddress, IllegalDataValue}
 use Rattle.requests.specs.declared.Refusal.{Refusal}
-use Rattle.requests.specs.declared.Refusal.TheVariants.{Exception, Ignored, Foreign, FrameBroken, FrameCheck, WrongLength, BadFunction, NoRoom, BadSetup}
+use Rattle.requests.specs.declared.Refusal.TheVariants.{Exception, Ignored, ReadIgnored, Foreign, FrameBroken, FrameCheck, WrongLength, BadFunction, NoRoom, BadSetup}
 
 abbrev pub On : Bool → Type 0
 On true = Unit {0}
@@ -35,7 +35,7 @@ needed p r = choose p (Ok tt) (Err r)
 
 -- a fault without a code: nothing is sent
 abbrev pub quiet_by : Silent → Refusal
-quiet_by read_ignored_quiet = Ignored None
+quiet_by read_ignored_quiet = ReadIgnored
 quiet_by foreign = Foreign
 quiet_by frame_broken_quiet = FrameBroken
 quiet_by frame_check_quiet = FrameCheck
@@ -46,7 +46,7 @@ quiet_by bad_setup_quiet = BadSetup
 
 -- a fault with a code: an exception from our own unit; on a broadcast number it is ignored, and nothing is sent
 abbrev pub refused_by : Bool → Code → Refusal
-refused_by true c = Ignored (Some c)
+refused_by true c = Ignored c
 refused_by false c = Exception c
 
 abbrev pub ignored : Refusal
@@ -102,8 +102,8 @@ code_number IllegalDataValue = 3
 -- its outcome, the length of the body that is sent, which for an exception is 3, and the code
 abbrev pub refusal_paper : Refusal → ℕ × ℕ × ℕ
 refusal_paper (Exception c) = (2, 3, code_number c)
-refusal_paper (Ignored None) = (3, 0, 0)
-refusal_paper (Ignored (Some c)) = (3, 0, code_number c)
+refusal_paper (Ignored c) = (3, 0, code_number c)
+refusal_paper ReadIgnored = (3, 0, 0)
 refusal_paper Foreign = (4, 0, 0)
 refusal_paper FrameBroken = (5, 0, 0)
 refusal_paper FrameCheck = (6, 0, 0)
@@ -111,6 +111,19 @@ refusal_paper WrongLength = (7, 0, 0)
 refusal_paper BadFunction = (8, 0, 0)
 refusal_paper NoRoom = (9, 0, 0)
 refusal_paper BadSetup = (10, 0, 0)
+
+-- what it says on the line
+abbrev pub spoken : Refusal → Option Code
+spoken (Exception c) = Some c
+spoken (Ignored c) = None
+spoken ReadIgnored = None
+spoken Foreign = None
+spoken FrameBroken = None
+spoken FrameCheck = None
+spoken WrongLength = None
+spoken BadFunction = None
+spoken NoRoom = None
+spoken BadSetup = None
 
 abbrev pub write_numbers : Write → List ℕ
 write_numbers (Bits c) = 0 ∷ c.address ∷ c.count ∷ c.at ∷ []

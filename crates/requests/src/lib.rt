@@ -9,7 +9,7 @@ ghost use Rattle.modbus.specs.Request.{reads, one, many, mask, both, code, most_
 ghost use Rattle.modbus.specs.Paper.{kind_in};
 ghost use Rattle.modbus.specs.Setup.{Setup};
 ghost use Rattle.modbus.specs.Decode.{valued?};
-ghost use Rattle.requests.specs.Judged.{refused_by, needed, written, write_of, judged, verdict_paper};
+ghost use Rattle.requests.specs.Judged.{refused_by, needed, written, write_of, judged, code_number, verdict_paper};
 ghost use Rattle.requests.specs.declared.Code.TheVariants as code;
 ghost use Rattle.requests.specs.declared.Refusal.TheVariants.{BadFunction, WrongLength};
 
@@ -29,7 +29,7 @@ pub struct ReadCells {
 pub struct Cells {
     pub address: u16,
     pub count: u16,
-    pub at: usize,
+    pub at: u8,
 }
 
 #[derive(Clone, Copy)]
@@ -67,17 +67,30 @@ pub enum Request {
 // What an exception says.
 #[derive(Clone, Copy)]
 pub enum Code {
-    IllegalFunction = 1,
-    IllegalDataAddress = 2,
-    IllegalDataValue = 3,
+    IllegalFunction,
+    IllegalDataAddress,
+    IllegalDataValue,
 }
 
-// Why a request is not served: document 01's outcomes 2 to 10. All but an exception are silent. What is ignored came to a broadcast number: it has
-// the code of the exception that our own number would have had, and a read has none.
+impl From<Code> for u8 {
+    ghost from_gives = { λ code n. n ≡ code_number code };
+
+    fn from(code: Code) -> u8 {
+        match code {
+            Code::IllegalFunction => 1,
+            Code::IllegalDataAddress => 2,
+            Code::IllegalDataValue => 3,
+        }
+    }
+}
+
+// Why a request is not served: document 01's outcomes 2 to 10, of which only an exception is answered. What is ignored came to a broadcast number: a
+// read, or what our own unit would have answered by an exception of this code.
 #[derive(Clone, Copy)]
 pub enum Refusal {
     Exception(Code),
-    Ignored(Option<Code>),
+    Ignored(Code),
+    ReadIgnored,
     Foreign,
     FrameBroken,
     FrameCheck,
@@ -92,7 +105,7 @@ fn refused(broadcast: bool, code: Code) -> Refusal
     ensures { result ≡ refused_by broadcast code }
 {
     if broadcast {
-        return Refusal::Ignored(Some(code));
+        return Refusal::Ignored(code);
     }
     Refusal::Exception(code)
 }
@@ -122,7 +135,7 @@ fn judge_read(body: &[u8], broadcast: bool, most: u16, cells: usize) -> Result<R
     ensures { (s : Setup) → ((t : Tab) → get_or body.now 1 0 ≡ code (reads t) → s.cells t ≡ cells) → result ≡ judged s broadcast body.now }
 {
     if broadcast {
-        return Err(Refusal::Ignored(None));
+        return Err(Refusal::ReadIgnored);
     }
     if body.len() != 6 {
         return Err(Refusal::WrongLength);
@@ -259,7 +272,7 @@ fn judge_both(body: &[u8], broadcast: bool, cells: usize) -> Result<Request, Ref
     ensures { (s : Setup) → s.cells holdings ≡ cells → result ≡ judged s broadcast body.now }
 {
     if broadcast {
-        return Err(Refusal::Ignored(None));
+        return Err(Refusal::ReadIgnored);
     }
     lengthy(body, 10)?;
     let x = Exchange {
