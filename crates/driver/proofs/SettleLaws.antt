@@ -64,7 +64,7 @@ module _ (lent : Call) (x : Bool) (b : List ℕ) where
   ready (Ok (request.Read q)) f h =
       let e : tab_of q.function ≡ f.tab = ap tab_of f.function ∙ tab_of_law f.tab in
       let r = read_range f.tab in
-      record { first = rw f.function r.0; last = rw f.function r.1; most = rw e f.most; inside = rw e f.inside; whole = h }
+      record { numbered = f.numbered ∙ sym f.function; first = rw f.function r.0; last = rw f.function r.1; most = rw e f.most; inside = rw e f.inside; whole = h }
   ready (Ok (request.Write (Bits c))) f h = record { inside = f.inside; held = f.held; single = f.single; whole = f.whole }
   ready (Ok (request.Write (Words c))) f h = record { inside = f.inside; held = f.held; single = f.single; whole = f.whole }
   ready (Ok (request.Mask m)) f h = record { inside = f.inside; whole = omega (arith, f.whole) }

@@ -40,6 +40,7 @@ put_at start reply l = (length l, sets reply start l)
 -- ---- what a verdict needs: its cells inside the tables, its data in the body
 
 pub record ReadReady (l : Lent) (b : List ℕ) (q : ReadCells) : Type 0 where
+  pub numbered : get_or b 1 0 ≡ q.function
   pub first : 1 ≤ q.function
   pub last : q.function ≤ 4
   pub most : q.count ≤ most_read (kind_of (tab_of q.function))

@@ -81,7 +81,7 @@ fn read<'a>(
     ensures { (result, reply.new) ≡ put_at start reply.old (read_body (lent_in setup coils.now discretes.now holdings.now inputs.now) (tab_of q.function) body.now q.address q.count) }
 {
     let at = start + 3;
-    match q.function {
+    match body[1] {
         1 => {
             let n = head(body, (q.count as usize + 7) / 8, reply, start);
             get_coils_as_u8(coils, setup.coil_cells, q.address, q.count, reply, at);
@@ -105,7 +105,7 @@ fn read<'a>(
                 setup.holding_cells,
                 inputs,
                 setup.input_cells,
-                q.function,
+                body[1],
                 q.address,
                 q.count,
             );
