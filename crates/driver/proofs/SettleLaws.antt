@@ -29,7 +29,6 @@ use Rattle.requests.specs.declared.ReadCells.{ReadCells}
 use Rattle.requests.specs.declared.Cells.{Cells}
 use Rattle.requests.specs.declared.Mask.{Mask}
 use Rattle.requests.specs.declared.Exchange.{Exchange}
-use Rattle.requests.specs.declared.Write.TheVariants.{Bits, Words}
 use Rattle.requests.specs.declared.Request.TheVariants as request
 use Rattle.requests.specs.declared.Code.{Code}
 use Rattle.requests.specs.declared.Code.TheVariants.{IllegalFunction, IllegalDataAddress, IllegalDataValue}
@@ -65,8 +64,8 @@ module _ (lent : Call) (x : Bool) (b : List ℕ) where
       let e : tab_of q.function ≡ f.tab = ap tab_of f.function ∙ tab_of_law f.tab in
       let r = read_range f.tab in
       record { numbered = f.numbered ∙ sym f.function; first = rw f.function r.0; last = rw f.function r.1; most = rw e f.most; inside = rw e f.inside; whole = h }
-  ready (Ok (request.Write (Bits c))) f h = record { inside = f.inside; held = f.held; single = f.single; whole = f.whole }
-  ready (Ok (request.Write (Words c))) f h = record { inside = f.inside; held = f.held; single = f.single; whole = f.whole }
+  ready (Ok (request.WriteBits c)) f h = record { inside = f.inside; held = f.held; single = f.single; whole = f.whole }
+  ready (Ok (request.WriteWords c)) f h = record { inside = f.inside; held = f.held; single = f.single; whole = f.whole }
   ready (Ok (request.Mask m)) f h = record { inside = f.inside; whole = omega (arith, f.whole) }
   ready (Ok (request.Exchange x)) f h = record { most = f.most; inside = f.inside; within = f.within; held = omega (arith, f.held) }
   ready (Err r) f h = told_ready b (spoken r) f.1 h
@@ -79,8 +78,10 @@ pub brief : (l : Lent) (x : Bool) (b : List ℕ) (v : Verdict) → Ready l b v �
 brief l x b (Ok (request.Read q)) r =
     let t = tab_of q.function in
     omega (arith, octets_most (kind_of t) q.count r.most, shown_length (kind_of t) q.address q.count (tables_of l t))
-brief l true b (Ok (request.Write w)) r = omega arith
-brief l false b (Ok (request.Write w)) r = simp length-take (omega arith)
+brief l true b (Ok (request.WriteBits c)) r = omega arith
+brief l false b (Ok (request.WriteBits c)) r = simp length-take (omega arith)
+brief l true b (Ok (request.WriteWords c)) r = omega arith
+brief l false b (Ok (request.WriteWords c)) r = simp length-take (omega arith)
 brief l true b (Ok (request.Mask m)) r = omega arith
 brief l false b (Ok (request.Mask m)) r = simp length-take (omega arith)
 brief l x b (Ok (request.Exchange y)) r =
@@ -271,11 +272,11 @@ module _ (lent : Call) (tag b : List ℕ) where
   serves bytes sized x (Ok (request.Read q)) f a e =
       let z : a ≡ read f.tab q.address q.count = let g = f.goes in cc in
       ap (served x) z ∙ read_serves x q f
-  serves bytes sized x (Ok (request.Write (Bits c))) f a e =
+  serves bytes sized x (Ok (request.WriteBits c)) f a e =
       let z : a ≡ asked f.fn b = let g = f.goes in cc in
       ap (served x) z
       ∙ three (write_echoed bytes bit x c f x) (write_target bytes bit x c f) (write_other bytes bit x c f holdings (λ h. apart (sym h)))
-  serves bytes sized x (Ok (request.Write (Words c))) f a e =
+  serves bytes sized x (Ok (request.WriteWords c)) f a e =
       let z : a ≡ asked f.fn b = let g = f.goes in cc in
       ap (served x) z ∙ three (write_echoed bytes word x c f x) (write_other bytes word x c f coils apart) (write_target bytes word x c f)
   serves bytes sized x (Ok (request.Mask m)) f a e =

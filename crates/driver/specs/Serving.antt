@@ -14,8 +14,6 @@ use Rattle.requests.specs.declared.ReadCells.{ReadCells}
 use Rattle.requests.specs.declared.Cells.{Cells}
 use Rattle.requests.specs.declared.Mask.{Mask}
 use Rattle.requests.specs.declared.Exchange.{Exchange}
-use Rattle.requests.specs.declared.Write.{Write}
-use Rattle.requests.specs.declared.Write.TheVariants.{Bits, Words}
 use Rattle.requests.specs.declared.Request.TheVariants as request
 use Rattle.requests.specs.declared.Code.{Code}
 use Rattle.requests.specs.Judged.{Verdict, refusal_paper, code_number, spoken}
@@ -69,8 +67,8 @@ SaysReady b (Some c) = (2 ≤ length b) × (get_or b 1 0 ≤ 127)
 
 abbrev pub Ready : Lent → List ℕ → Verdict → Type 0
 Ready l b (Ok (request.Read q)) = ReadReady l b q
-Ready l b (Ok (request.Write (Bits c))) = WriteReady bit l b c
-Ready l b (Ok (request.Write (Words c))) = WriteReady word l b c
+Ready l b (Ok (request.WriteBits c)) = WriteReady bit l b c
+Ready l b (Ok (request.WriteWords c)) = WriteReady word l b c
 Ready l b (Ok (request.Mask m)) = MaskReady l b m
 Ready l b (Ok (request.Exchange x)) = BothReady l b x
 Ready l b (Err r) = SaysReady b (spoken r)
@@ -94,8 +92,8 @@ run t first count = record { tab = t; first = first; count = count } ∷ []
 
 abbrev pub telling : Bool → Verdict → Telling
 telling broadcast (Ok (request.Read q)) = tells 0 0 []
-telling broadcast (Ok (request.Write (Bits c))) = tells (done_by broadcast) 0 (run coils c.address c.count)
-telling broadcast (Ok (request.Write (Words c))) = tells (done_by broadcast) 0 (run holdings c.address c.count)
+telling broadcast (Ok (request.WriteBits c)) = tells (done_by broadcast) 0 (run coils c.address c.count)
+telling broadcast (Ok (request.WriteWords c)) = tells (done_by broadcast) 0 (run holdings c.address c.count)
 telling broadcast (Ok (request.Mask m)) = tells (done_by broadcast) 0 (run holdings m.address 1)
 telling broadcast (Ok (request.Exchange x)) = tells 0 0 (run holdings x.write_address x.write_count)
 telling broadcast (Err r) = tells (refusal_paper r).0 (refusal_paper r).2 []
@@ -119,17 +117,6 @@ read_body l t b address count =
 -- the values of a write stand in the body
 abbrev pub data_of : Kind → List ℕ → Cells → List ℕ
 data_of k b c = values k c.count (take (octets k c.count) (drop c.at b))
-
-abbrev pub coils_by : Write → List ℕ → List ℕ → List ℕ
-coils_by (Bits c) b l = store packed l c.address (data_of bit b c)
-coils_by (Words c) b l = l
-
-abbrev pub holdings_by : Write → List ℕ → List ℕ → List ℕ
-holdings_by (Bits c) b l = l
-holdings_by (Words c) b l = store registers l c.address (data_of word b c)
-
-abbrev pub stored_by : Write → List ℕ → List ℕ → List ℕ → List ℕ × List ℕ
-stored_by w b c h = (coils_by w b c, holdings_by w b h)
 
 -- a register by its masks
 abbrev pub masked_by : Mask → List ℕ → List ℕ
@@ -163,7 +150,10 @@ saying b (Some c) = get_or b 0 0 ∷ exception (get_or b 1 0) (code_number c)
 
 abbrev pub serving : Lent → Bool → List ℕ → Verdict → Turn
 serving l broadcast b (Ok (request.Read q)) = turn (read_body l (tab_of q.function) b q.address q.count) l.coil_bytes l.holding_bytes
-serving l broadcast b (Ok (request.Write w)) = turn (echoed broadcast 6 b) (coils_by w b l.coil_bytes) (holdings_by w b l.holding_bytes)
+serving l broadcast b (Ok (request.WriteBits c)) =
+    turn (echoed broadcast 6 b) (store packed l.coil_bytes c.address (data_of bit b c)) l.holding_bytes
+serving l broadcast b (Ok (request.WriteWords c)) =
+    turn (echoed broadcast 6 b) l.coil_bytes (store registers l.holding_bytes c.address (data_of word b c))
 serving l broadcast b (Ok (request.Mask m)) = turn (echoed broadcast 8 b) l.coil_bytes (masked_by m l.holding_bytes)
 serving l broadcast b (Ok (request.Exchange x)) = turn (swap_body x b l.holding_bytes) l.coil_bytes (swapped_by x b l.holding_bytes)
 serving l broadcast b (Err r) = turn (saying b (spoken r)) l.coil_bytes l.holding_bytes

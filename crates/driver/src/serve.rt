@@ -12,7 +12,7 @@ ghost use Rattle.driver.specs.Serving.{Sized, put_at, ReadReady, SaysReady, Read
 use crate::Setup;
 use crate::tell::{pack, refused, wrote};
 use octets::word;
-use requests::{Cells, Exchange, Mask, ReadCells, Refusal, Request, Write};
+use requests::{Cells, Exchange, Mask, ReadCells, Refusal, Request};
 use response::extend;
 use tables::coils::{get_coils_as_u8, get_discretes_as_u8, set_coils_from_u8};
 use tables::registers::{read_registers, set_holding, set_holdings_from_u8};
@@ -203,12 +203,12 @@ pub(crate) fn serve(
             );
             (0, n)
         }
-        Ok(Request::Write(Write::Bits(c))) => {
+        Ok(Request::WriteBits(c)) => {
             write_bits(c, setup.coil_cells, body, coils);
             let n = written(broadcast, body, 6, reply, start);
             (wrote(broadcast, 1, c.address, c.count), n)
         }
-        Ok(Request::Write(Write::Words(c))) => {
+        Ok(Request::WriteWords(c)) => {
             write_words(c, setup.holding_cells, body, holdings);
             let n = written(broadcast, body, 6, reply, start);
             (wrote(broadcast, 3, c.address, c.count), n)

@@ -29,7 +29,6 @@ use Rattle.requests.specs.declared.Cells.{Cells}
 use Rattle.requests.specs.declared.ReadCells.{ReadCells}
 use Rattle.requests.specs.declared.Mask.{Mask}
 use Rattle.requests.specs.declared.Exchange.{Exchange}
-use Rattle.requests.specs.declared.Write.TheVariants.{Bits, Words}
 use Rattle.requests.specs.declared.Request.TheVariants as request
 use Rattle.requests.specs.declared.Code.{Code}
 use Rattle.requests.specs.declared.Code.TheVariants.{IllegalFunction, IllegalDataAddress, IllegalDataValue}
@@ -97,8 +96,8 @@ Told b (Some c) = get_or b 1 0 ≤ 127
 
 abbrev pub Fine : Setup → Bool → List ℕ → Verdict → Type 0
 Fine s broadcast b (Ok (request.Read q)) = FineRead s broadcast b q
-Fine s broadcast b (Ok (request.Write (Bits c))) = FineWrite bit s broadcast b c
-Fine s broadcast b (Ok (request.Write (Words c))) = FineWrite word s broadcast b c
+Fine s broadcast b (Ok (request.WriteBits c)) = FineWrite bit s broadcast b c
+Fine s broadcast b (Ok (request.WriteWords c)) = FineWrite word s broadcast b c
 Fine s broadcast b (Ok (request.Mask m)) = FineMask s broadcast b m
 Fine s broadcast b (Ok (request.Exchange x)) = FineBoth s broadcast b x
 Fine s broadcast b (Err r) = (weighed s broadcast b ≡ stop r) × Told b (spoken r)

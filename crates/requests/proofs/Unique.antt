@@ -10,7 +10,6 @@ use Rattle.modbus.specs.Setup.{Setup}
 use Rattle.modbus.proofs.Unique.{Unique, by_back}
 use Prim.Native.Nat.{ℕ}
 use Rattle.requests.specs.Judged.{Verdict, verdict_paper}
-use Rattle.requests.specs.declared.Write.TheVariants.{Bits, Words}
 use Rattle.requests.specs.declared.Request.TheVariants as request
 use Rattle.requests.specs.declared.Code.{Code}
 use Rattle.requests.specs.declared.Code.TheVariants.{IllegalFunction, IllegalDataAddress, IllegalDataValue}
@@ -31,10 +30,10 @@ refusal_back o c =
 
 abbrev verdict_back : List ℕ → Verdict
 verdict_back (o ∷ r ∷ c ∷ []) = Err (refusal_back o c)
-verdict_back (o ∷ f ∷ a ∷ n ∷ []) = Ok (request.Read (record { function = f; address = a; count = n }))
+verdict_back (o ∷ f ∷ a ∷ n ∷ []) = Ok (request.Read (record { address = a; count = n; function = f }))
 verdict_back (o ∷ k ∷ a ∷ n ∷ at ∷ []) =
     Ok (cond (eqb k 22) (request.Mask (record { address = a; and_mask = n; or_mask = at }))
-    (request.Write (cond (eqb k 0) (Bits (record { address = a; count = n; at = at })) (Words (record { address = a; count = n; at = at })))))
+    (cond (eqb k 0) (request.WriteBits (record { address = a; count = n; at = at })) (request.WriteWords (record { address = a; count = n; at = at }))))
 verdict_back (o ∷ k ∷ r ∷ n ∷ s ∷ m ∷ l) =
     Ok (request.Exchange (record { read_address = r; read_count = n; write_address = s; write_count = m }))
 verdict_back [] = Err BadSetup
@@ -43,8 +42,8 @@ verdict_back (o ∷ r ∷ []) = Err BadSetup
 
 verdict_back_law : (v : Verdict) → verdict_back (verdict_paper v) ≡ v
 verdict_back_law (Ok (request.Read q)) = refl
-verdict_back_law (Ok (request.Write (Bits c))) = refl
-verdict_back_law (Ok (request.Write (Words c))) = refl
+verdict_back_law (Ok (request.WriteBits c)) = refl
+verdict_back_law (Ok (request.WriteWords c)) = refl
 verdict_back_law (Ok (request.Mask m)) = refl
 verdict_back_law (Ok (request.Exchange x)) = refl
 verdict_back_law (Err (Exception IllegalFunction)) = refl

@@ -8,8 +8,6 @@ use Rattle.modbus.specs.Setup.{Setup}
 use Rattle.modbus.specs.Decode.{Silent, read_ignored_quiet, foreign, frame_broken_quiet, frame_check_quiet, wrong_length_quiet, bad_function_quiet, no_room_quiet, bad_setup_quiet}
 use Rattle.modbus.specs.Drive.{weigh}
 use Rattle.requests.specs.declared.Cells.{Cells}
-use Rattle.requests.specs.declared.Write.{Write}
-use Rattle.requests.specs.declared.Write.TheVariants.{Bits, Words}
 use Rattle.requests.specs.declared.Request.{Request}
 use Rattle.requests.specs.declared.Request.TheVariants as request
 use Rattle.requests.specs.declared.Code.{Code}
@@ -63,20 +61,20 @@ coded (suc (suc (suc n))) = IllegalDataValue
 abbrev pub weighed : Setup → Bool → List ℕ → Step Refusal Ask
 weighed s broadcast b = weigh quiet_by (λ n. refused_by broadcast (coded n)) s (on? broadcast) b
 
-abbrev pub write_of : Kind → Cells → Write
-write_of bit c = Bits c
-write_of word c = Words c
+abbrev pub write_of : Kind → Cells → Request
+write_of bit c = request.WriteBits c
+write_of word c = request.WriteWords c
 
 -- a write of cells, which lie inside a table of so many, or are refused
 abbrev pub written : Kind → Cells → ℕ → Refusal → Verdict
-written k c cells r = choose (c.address + c.count ≤? cells) (Ok (request.Write (write_of k c))) (Err r)
+written k c cells r = choose (c.address + c.count ≤? cells) (Ok (write_of k c)) (Err r)
 
 -- the cells it names, and where its data stand in the body: a single value at 4, many after the byte count at 7; masks are kept as they are, and the
 -- data of a write that comes with a read always stand at 11
 abbrev pub kept : Ask → Request
-kept (read t s n) = request.Read (record { function = code (reads t); address = s; count = n })
-kept (write k a v) = request.Write (write_of k (record { address = a; count = 1; at = 4 }))
-kept (writes k s vs) = request.Write (write_of k (record { address = s; count = length vs; at = 7 }))
+kept (read t s n) = request.Read (record { address = s; count = n; function = code (reads t) })
+kept (write k a v) = write_of k (record { address = a; count = 1; at = 4 })
+kept (writes k s vs) = write_of k (record { address = s; count = length vs; at = 7 })
 kept (masks a x y) = request.Mask (record { address = a; and_mask = x; or_mask = y })
 kept (swaps r n s vs) = request.Exchange (record { read_address = r; read_count = n; write_address = s; write_count = length vs })
 
@@ -125,15 +123,12 @@ spoken BadFunction = None
 spoken NoRoom = None
 spoken BadSetup = None
 
-abbrev pub write_numbers : Write → List ℕ
-write_numbers (Bits c) = 0 ∷ c.address ∷ c.count ∷ c.at ∷ []
-write_numbers (Words c) = 1 ∷ c.address ∷ c.count ∷ c.at ∷ []
-
 -- first the outcome, 0 for a request that is served: then its function, or 0 for bits and 1 for words, its first cell, how many, and where a write's
 -- data stand, or its masks, or the cells that it writes; else the length of the body that is sent, and the code
 abbrev pub verdict_paper : Verdict → List ℕ
 verdict_paper (Ok (request.Read q)) = 0 ∷ q.function ∷ q.address ∷ q.count ∷ []
-verdict_paper (Ok (request.Write w)) = 0 ∷ write_numbers w
+verdict_paper (Ok (request.WriteBits c)) = 0 ∷ 0 ∷ c.address ∷ c.count ∷ c.at ∷ []
+verdict_paper (Ok (request.WriteWords c)) = 0 ∷ 1 ∷ c.address ∷ c.count ∷ c.at ∷ []
 verdict_paper (Ok (request.Mask m)) = 0 ∷ code mask ∷ m.address ∷ m.and_mask ∷ m.or_mask ∷ []
 verdict_paper (Ok (request.Exchange x)) = 0 ∷ code both ∷ x.read_address ∷ x.read_count ∷ x.write_address ∷ x.write_count ∷ []
 verdict_paper (Err r) = (refusal_paper r).0 ∷ (refusal_paper r).1 ∷ (refusal_paper r).2 ∷ []

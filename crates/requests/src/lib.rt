@@ -19,9 +19,9 @@ use octets::word;
 // A read: its function tells the table.
 #[derive(Clone, Copy)]
 pub struct ReadCells {
-    pub function: u8,
     pub address: u16,
     pub count: u16,
+    pub function: u8,
 }
 
 // A write: the cells that it names, and where its data stand in the body. Bits are packed into as few bytes as hold them, words have two each.
@@ -30,12 +30,6 @@ pub struct Cells {
     pub address: u16,
     pub count: u16,
     pub at: u8,
-}
-
-#[derive(Clone, Copy)]
-pub enum Write {
-    Bits(Cells),
-    Words(Cells),
 }
 
 // A mask write: the register, and its two masks.
@@ -59,7 +53,8 @@ pub struct Exchange {
 #[derive(Clone, Copy)]
 pub enum Request {
     Read(ReadCells),
-    Write(Write),
+    WriteBits(Cells),
+    WriteWords(Cells),
     Mask(Mask),
     Exchange(Exchange),
 }
@@ -145,9 +140,9 @@ fn judge_read(body: &[u8], broadcast: bool, most: u16, cells: usize) -> Result<R
     let address = word(body, 2);
     inside(broadcast, address, count, cells)?;
     Ok(Request::Read(ReadCells {
-        function: body[1],
         address: address,
         count: count,
+        function: body[1],
     }))
 }
 
@@ -164,12 +159,12 @@ fn valued(body: &[u8], broadcast: bool, kind: CellKind) -> Result<(), Refusal>
     }
 }
 
-fn write_of(kind: CellKind, c: Cells) -> Write
+fn write_of(kind: CellKind, c: Cells) -> Request
     ensures { result ≡ write_of (kind_in kind) c }
 {
     match kind {
-        CellKind::Bits => Write::Bits(c),
-        CellKind::Words => Write::Words(c),
+        CellKind::Bits => Request::WriteBits(c),
+        CellKind::Words => Request::WriteWords(c),
     }
 }
 
@@ -183,7 +178,7 @@ fn judge_address(
     ensures { result ≡ written (kind_in kind) c cells (refused_by broadcast code.IllegalDataAddress) }
 {
     inside(broadcast, c.address, c.count, cells)?;
-    Ok(Request::Write(write_of(kind, c)))
+    Ok(write_of(kind, c))
 }
 
 // A write of one coil or register.

@@ -5,16 +5,14 @@ use Rattle.driver.proofs.serve.serve.Goals as goal
 
 pub write_bits-requires : goal.write_bits-requires
 write_bits-requires c =
-    let i = c.in-Ok-Write-Bits in
-    let p = rw i.is at i.field-0-is in
-    let r = rw (i.is, p, rw (i.is, p) at i.field-0-0-is) at c.requires.ready.0 in
+    let i = c.in-Ok-WriteBits in
+    let r = rw (i.is, rw i.is at i.field-0-is) at c.requires.ready.0 in
     (r.inside, r.held, c.requires.sized coils)
 
 pub write_words-requires : goal.write_words-requires
 write_words-requires c =
-    let i = c.in-Ok-Write-Words in
-    let p = rw i.is at i.field-0-is in
-    let r = rw (i.is, p, rw (i.is, p) at i.field-0-0-is) at c.requires.ready.0 in
+    let i = c.in-Ok-WriteWords in
+    let r = rw (i.is, rw i.is at i.field-0-is) at c.requires.ready.0 in
     (r.inside, r.held, r.single, c.requires.sized holdings)
 
 pub write_mask-requires : goal.write_mask-requires
@@ -29,17 +27,13 @@ exchange-n-requires c =
     let r = rw (i.is, rw i.is at i.field-0-is) at c.requires.ready.0 in
     (r.most, r.inside, r.within, r.held, c.requires.ready.1, c.requires.sized holdings)
 
-pub returns-in-Ok-Write-Bits-clause-told : goal.returns-in-Ok-Write-Bits-clause-told
-returns-in-Ok-Write-Bits-clause-told c =
-    let i = c.in-Ok-Write-Bits in
-    let p = rw i.is at i.field-0-is in
-    rw (i.is, p, rw (i.is, p) at i.field-0-0-is) c.wrote.ensures
+pub returns-in-Ok-WriteBits-clause-told : goal.returns-in-Ok-WriteBits-clause-told
+returns-in-Ok-WriteBits-clause-told c = let i = c.in-Ok-WriteBits in rw (i.is, rw i.is at i.field-0-is) c.wrote.ensures
 
-pub returns-in-Ok-Write-Words-clause-told : goal.returns-in-Ok-Write-Words-clause-told
-returns-in-Ok-Write-Words-clause-told c =
-    let i = c.in-Ok-Write-Words in
-    let p = rw i.is at i.field-0-is in
-    rw (i.is, p, rw (i.is, p) at i.field-0-0-is) c.wrote-in-Ok-Write-Words.ensures
+pub returns-in-Ok-WriteWords-clause-told : goal.returns-in-Ok-WriteWords-clause-told
+returns-in-Ok-WriteWords-clause-told c =
+    let i = c.in-Ok-WriteWords in
+    rw (i.is, rw i.is at i.field-0-is) c.wrote-in-Ok-WriteWords.ensures
 
 pub returns-in-Ok-Mask-clause-told : goal.returns-in-Ok-Mask-clause-told
 returns-in-Ok-Mask-clause-told c = let i = c.in-Ok-Mask in rw (i.is, rw i.is at i.field-0-is) c.wrote-in-Ok-Mask.ensures
