@@ -2,8 +2,8 @@
 // keeps it. No table is looked at: of each table only the number of its cells counts.
 #![tactic(auto)]
 
-ghost use Rattle.std.specs.Prelude.{◌≡◌, ◌+◌, ◌≤◌, length, get_or};
-ghost use Rattle.modbus.specs.Step.{choose, ◌≤?◌, ◌≟◌, ◌and?◌};
+ghost use Rattle.std.specs.Prelude.{true, false, ◌≡◌, ◌+◌, ◌≤◌, length, get_or};
+ghost use Rattle.modbus.specs.Step.{choose, ◌≤?◌, ◌≟◌, ◌and?◌, ◌or?◌};
 ghost use Rattle.modbus.specs.Table.{Tab, coils, discretes, holdings, inputs, kind_of, target};
 ghost use Rattle.modbus.specs.Request.{reads, one, many, mask, both, code, most_read, most_written, octets};
 ghost use Rattle.modbus.specs.Paper.{kind_in};
@@ -146,16 +146,27 @@ fn judge_read(body: &[u8], broadcast: bool, most: u16, cells: usize) -> Result<R
     }))
 }
 
+fn is_coil(value: u16) -> bool
+    ensures { result ≡ choose ((value ≟ 0) or? (value ≟ 0xFF00)) true false }
+{
+    match value {
+        0 | 0xFF00 => true,
+        _ => false,
+    }
+}
+
 // A single coil is off or on; a register may have any value.
 fn valued(body: &[u8], broadcast: bool, kind: CellKind) -> Result<(), Refusal>
     ensures { result ≡ needed (valued? (one (kind_in kind)) body.now) (refused_by broadcast code.IllegalDataValue) }
 {
     match kind {
+        CellKind::Bits => {
+            if !is_coil(word(body, 4)) {
+                return Err(refused(broadcast, Code::IllegalDataValue));
+            }
+            Ok(())
+        }
         CellKind::Words => Ok(()),
-        CellKind::Bits => match word(body, 4) {
-            0 | 0xFF00 => Ok(()),
-            _ => Err(refused(broadcast, Code::IllegalDataValue)),
-        },
     }
 }
 
