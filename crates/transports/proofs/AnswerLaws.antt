@@ -14,7 +14,7 @@ use Rattle.modbus.proofs.StepLaws.{needed, bound, tested}
 use Rattle.modbus.proofs.HexLaws.{length_text, text_untext, length_spelt}
 use Rattle.transports.specs.declared.Fault.{Fault}
 use Rattle.transports.specs.declared.Fault.TheVariants.{Broken, WrongCheck}
-use Rattle.transports.specs.Opened.{opened, fault_of, source, Fronted}
+use Rattle.transports.specs.Opened.{opened, fault_of, source, Holds, Fronted}
 use Rattle.transports.specs.Lines.{Lined, lined?}
 use Rattle.transports.proofs.OpenedLaws.{rtu_broken, rtu_checked, headed?, tcp_broken, tcp_body}
 use Rattle.transports.proofs.AsciiLaws.{digits, length_digits, ascii_unlined, ascii_digits, ascii_stop}
@@ -143,3 +143,14 @@ opened_under Rtu h f n q raw w g = opened_body Rtu f n q raw w g
 opened_under Ascii h f n q raw w g =
     let b = opened_body Ascii (spelt h f) n q raw w g in (b.0, b.1, b.2, omega (arith, b.3, length_spelt h f), b.4)
 opened_under TcpUdp h f n q raw w g = opened_body TcpUdp f n q raw w g
+
+-- n bytes from a place on, by that place and the one behind them
+pub part_same : (start n k : ℕ) (s s' : List ℕ) → start ≡ k → s ≡ s' → take ((start + n) - start) (drop start s) ≡ take n (drop k s')
+part_same start n k s s' e f = let z : (start + n) - start ≡ n = omega arith in rw (z, e, f)
+
+pub opens_holds : (p : ModbusProto) (g f : List ℕ) (n start : ℕ) (raw s : List ℕ) → Opens p g f n raw → start ≡ start_of p → s ≡ source p f raw
+    → Holds p f (take ((start + n) - start) (drop start s)) (unwrap p g)
+opens_holds p g f n start raw s h e k =
+    let z = part_same start n (start_of p) s (source p f raw) e k in
+    let l : length (take n (drop (start_of p) (source p f raw))) ≡ n = length-take-le n _ (simp length-drop (omega (arith, h.2))) in
+    (h.0 ∙ ap (λ (b : List ℕ). go (record { tag = tag_of p (get_or f 0 0) (get_or f 1 0); body = b })) (sym z), rw z (omega (arith, h.1, l)), h.3)

@@ -3,7 +3,8 @@
 use Rattle.std.proofs.Common.{◌≡◌, ℕ, zero, suc, ◌<◌, ◌≤◌, List, refl, arith}
 use Rattle.modbus.specs.Paper.{proto_of}
 use Rattle.modbus.specs.Frame.{start_of}
-use Rattle.modbus.specs.declared.ModbusProto.TheVariants.{TcpUdp}
+use Rattle.modbus.specs.declared.ModbusProto.{ModbusProto}
+use Rattle.modbus.specs.declared.ModbusProto.TheVariants.{Rtu, Ascii, TcpUdp}
 use Rattle.transports.specs.Opened.{source}
 
 pub start_serial : (n : ℕ) → n < 2 → 0 ≡ start_of (proto_of n)
@@ -25,3 +26,8 @@ pub source_other : (n : ℕ) (f raw : List ℕ) → ¬ (n ≡ 1) → source (pro
 source_other zero f raw ne = refl
 source_other (suc zero) f raw ne = absurd (ne refl)
 source_other (suc (suc n)) f raw ne = refl
+
+pub start_six : (p : ModbusProto) → start_of p ≤ 6
+start_six Rtu = omega arith
+start_six Ascii = omega arith
+start_six TcpUdp = omega arith

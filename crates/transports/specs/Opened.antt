@@ -1,7 +1,8 @@
 -- What opening a frame answers, and where its body stands.
 -- Assumes nothing.
-use Rattle.std.specs.Prelude.{◌≡◌, ℕ, List, length, take, Result, Ok, Err}
+use Rattle.std.specs.Prelude.{◌≡◌, ℕ, ◌≤◌, List, length, take, slice_index, Result, Ok, Err}
 use Rattle.modbus.specs.Step.{Step, stop, go}
+use Rattle.modbus.specs.Frame.{tag_of}
 use Rattle.modbus.specs.Decode.{Message, Silent, read_ignored_quiet, foreign, frame_broken_quiet, frame_check_quiet, wrong_length_quiet, bad_function_quiet, no_room_quiet, bad_setup_quiet}
 use Rattle.modbus.specs.declared.ModbusProto.{ModbusProto}
 use Rattle.modbus.specs.declared.ModbusProto.TheVariants.{Rtu, Ascii, TcpUdp}
@@ -35,3 +36,8 @@ source TcpUdp frame raw = frame
 abbrev pub Fronted : Step Silent Message → List ℕ → Type 0
 Fronted (go m) l = take (length m.body) l ≡ m.body
 Fronted (stop o) l = Unit {0}
+
+-- a frame is taken apart to this body, which has a unit and a function; the tag stands at the front of the frame
+abbrev pub Holds : ModbusProto → List ℕ → List ℕ → Step Silent Message → Type 0
+Holds p frame body s =
+    (s ≡ go (record { tag = tag_of p (slice_index frame 0) (slice_index frame 1); body = body })) × (2 ≤ length body) × (2 ≤ length frame)

@@ -6,11 +6,12 @@ pub mod lines;
 pub mod rtu;
 pub mod tcp;
 
-ghost use Rattle.std.specs.Prelude.{◌≡◌, length, drop};
+ghost use Rattle.std.specs.Prelude.{◌≡◌, length, drop, IfOk, IfErr};
+ghost use Rattle.modbus.specs.Step.{stop};
 ghost use Rattle.modbus.specs.Paper.{proto_of};
 ghost use Rattle.modbus.specs.Frame.{tag_of, start_of};
 ghost use Rattle.modbus.specs.Decode.{unwrap, spelled_in, outcome_of};
-ghost use Rattle.transports.specs.Opened.{opened, fault_of, Fronted, source};
+ghost use Rattle.transports.specs.Opened.{opened, fault_of, Holds, Fronted, source};
 ghost use Rattle.transports.specs.Sealed.{sealed};
 
 use lines::{open_ascii, seal_ascii};
@@ -61,6 +62,22 @@ pub fn body_source<'a>(transport: u8, raw: &'a [u8], frame: &'a [u8]) -> &'a [u8
     ensures { result.now ≡ source (proto_of transport) frame.now raw.now }
 {
     if transport == 1 { raw } else { frame }
+}
+
+// The body of a frame, where it stands: with the first two bytes of the frame as the tag of TCP it is what the frame holds.
+pub fn body_of<'a>(
+    transport: u8,
+    hex: u8,
+    frame: &'a [u8],
+    raw: &'a mut [u8; 256],
+) -> Result<&'a [u8], Fault>
+    ensures ok { IfOk result (λ body. Holds (proto_of transport) frame.now body.now (unwrap (proto_of transport) (spelled_in (proto_of transport) hex frame.now))) }
+    ensures err { IfErr result (λ fault. unwrap (proto_of transport) (spelled_in (proto_of transport) hex frame.now) ≡ stop (fault_of fault)) }
+{
+    let n = open(transport, hex, frame, raw)?;
+    let start = start_of(transport);
+    let source = body_source(transport, raw, frame);
+    Ok(&source[start..start + n])
 }
 
 // Makes the n bytes that stand in the reply from the transport's start on a frame at the front of the reply, and answers its length;

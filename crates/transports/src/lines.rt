@@ -88,8 +88,8 @@ fn decode_eight(line: &[u8], raw: &mut [u8])
     ensures raw_after { take 7 raw.new ≡ pair_values (drop 1 (take 15 line.now)) }
     ensures raw_len_unchanged { length raw.new ≡ length raw.old }
 {
-    for i in 0..8usize {
-        raw[i] = half(line[2 * i + 1]) * 16 + half(line[2 * i + 2]);
+    for (i, byte) in raw[..8].iter_mut().enumerate() {
+        *byte = half(line[2 * i + 1]) * 16 + half(line[2 * i + 2]);
     }
 }
 
