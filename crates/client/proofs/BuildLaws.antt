@@ -4,7 +4,7 @@ use mathlib.Core.Bool.{false}
 use Rattle.std.specs.Prelude.{is_err}
 use mathlib.Core.Logic.{⊎_elim, by_cases}
 use mathlib.Core.Path.{◌≡◌, refl, sym, ap, ap₂, ◌∙◌, subst}
-use mathlib.Core.List.{List, [], ◌∷◌, ◌++◌}
+use mathlib.Core.List.{List, ◌∷◌, ◌++◌}
 use Prim.Native.Nat.{ℕ, ◌+◌, ◌-◌, ◌*◌, ◌/◌, ◌%◌, ◌≤◌, ◌<◌}
 use native.Mathlib.Omega.{arith}
 use native.Mathlib.Nat.{div-add-mod'}
@@ -12,7 +12,7 @@ use Rattle.std.specs.Int.{w16, to_be_bytes}
 use lib.ListN.{length, get_or, length-replicate}
 use Rattle.modbus.specs.Step.{Step, stop, go, ◌≤?◌}
 use Rattle.modbus.specs.Bytes.{All, two}
-use Rattle.modbus.specs.Table.{Kind, bit, word, coils, discretes, holdings, inputs, Fits}
+use Rattle.modbus.specs.Table.{Kind, bit, word, Fits}
 use Rattle.modbus.specs.Request.{Fn, reads, one, many, mask, both, code, Ask, read, write, writes, masks, swaps, fn_of, most_written, Permitted, octets, Pads, pdu, shown}
 use Rattle.modbus.specs.Paper.{proto_of}
 use Rattle.modbus.specs.Setup.{Setup}
@@ -26,9 +26,10 @@ use Rattle.requests.specs.Judged.{Verdict, weighed, judged, kept_by, verdict_pap
 use Rattle.requests.specs.declared.Refusal.{Refusal}
 use Rattle.requests.proofs.Unique.{verdict_paper_law}
 use Rattle.client.specs.declared.ModbusRequest.{ModbusRequest}
-use Rattle.client.specs.Asking.{Declined, bad_request, or_bad_request, permitted?, every_cell, function_of, read_by, write_by, getting, setting, padding, body_to, generated}
+use Rattle.client.specs.Asking.{Declined, bad_request, or_bad_request, permitted?, every_cell, function_of, read_by, write_by, getting, padding, body_to, generated}
 use Rattle.client.specs.Hearing.{failed, body_sent, many_body, both_body}
 use Rattle.client.proofs.LayLaws.{zero_bits}
+use Rattle.client.proofs.FunctionLaws.{by_step, one_value, other_values, many_values}
 
 -- ---- functions have different numbers
 
@@ -111,11 +112,6 @@ pub or_stop : {F A : Type 0} (s : Step F A) {x : F} → s ≡ stop x → or_bad_
 unfolding or_bad_request
 or_stop s e = rw e
 
--- a run went or stopped
-pub by_step : {F A C : Type 0} (s : Step F A) → ((a : A) → s ≡ go a → C) → ((x : F) → s ≡ stop x → C) → C
-by_step (go a) f g = f a refl
-by_step (stop x) f g = g x refl
-
 module _ (to : ModbusRequest) (a : Ask) (room : ℕ) (sized : Sized a) where
   abbrev weight : Step Refusal Ask
   weight = weighed (every_cell to.proto) false (body_to to a)
@@ -161,74 +157,6 @@ kept_fails (go a) = refl
 pub verdict_fails : (s : Setup) (b : List ℕ) (v : Verdict) → verdict_paper v ≡ verdict_paper (judged s false b) → is_err v ≡ failed (weighed s false b)
 unfolding judged
 verdict_fails s b v e = ap is_err (verdict_paper_law _ _ e) ∙ kept_fails (weighed s false b)
-
--- ---- which function it is
-
--- a number above 4 reads nothing
-read_high : (reg count : ℕ) (fn : Fn) → 4 < code fn → read_by reg count fn ≡ stop bad_request
-read_high reg count (reads coils) h = absurd (omega arith)
-read_high reg count (reads discretes) h = absurd (omega arith)
-read_high reg count (reads holdings) h = absurd (omega arith)
-read_high reg count (reads inputs) h = absurd (omega arith)
-read_high reg count (one k) h = refl
-read_high reg count (many k) h = refl
-read_high reg count mask h = refl
-read_high reg count both h = refl
-
-module _ (n func reg count : ℕ) where
-  pub getting_high : 4 < func → getting n func reg count ≡ stop bad_request
-  unfolding getting
-  getting_high h =
-      by_step (function_of n func)
-      (λ fn e. follow _ _ e ∙ read_high reg count fn (rw (found_fn code _ _ _ fn e) at h))
-      (λ x e. halt _ _ (e ∙ ap stop (sym (found_fault code _ _ _ e))))
-
--- what is asked of a number is asked of its function
-pub setting_by : (n func reg : ℕ) (vs : List ℕ) (fn : Fn) → func ≡ code fn → setting n func reg vs ≡ write_by reg vs fn
-unfolding setting
-setting_by n func reg vs fn e = follow _ _ (find_fn bad_request func (proto_of n) fn e)
-
-write_none : (reg : ℕ) (vs : List ℕ) (fn : Fn) → ¬ (code fn ≡ 5) → ¬ (code fn ≡ 6) → ¬ (code fn ≡ 15) → ¬ (code fn ≡ 16)
-    → write_by reg vs fn ≡ stop bad_request
-write_none reg [] (reads t) a b c d = refl
-write_none reg (v ∷ []) (reads t) a b c d = refl
-write_none reg (v ∷ w ∷ vs) (reads t) a b c d = refl
-write_none reg vs (one bit) a b c d = absurd (a refl)
-write_none reg vs (one word) a b c d = absurd (b refl)
-write_none reg vs (many bit) a b c d = absurd (c refl)
-write_none reg vs (many word) a b c d = absurd (d refl)
-write_none reg [] mask a b c d = refl
-write_none reg (v ∷ []) mask a b c d = refl
-write_none reg (v ∷ w ∷ vs) mask a b c d = refl
-write_none reg [] both a b c d = refl
-write_none reg (v ∷ []) both a b c d = refl
-write_none reg (v ∷ w ∷ vs) both a b c d = refl
-
-pub setting_none : (n func reg : ℕ) (vs : List ℕ) → ¬ (func ≡ 5) → ¬ (func ≡ 6) → ¬ (func ≡ 15) → ¬ (func ≡ 16)
-    → setting n func reg vs ≡ stop bad_request
-unfolding setting
-setting_none n func reg vs a b c d =
-    by_step (function_of n func)
-    (λ fn e.
-    let q = found_fn code _ _ _ fn e in
-    follow _ _ e ∙ write_none reg vs fn (λ z. a (q ∙ z)) (λ z. b (q ∙ z)) (λ z. c (q ∙ z)) (λ z. d (q ∙ z)))
-    (λ x e. halt _ _ (e ∙ ap stop (sym (found_fault code _ _ _ e))))
-
--- exactly one value
-pub one_value : (k : Kind) (reg : ℕ) (vs : List ℕ) → length vs ≡ 1 → write_by reg vs (one k) ≡ go (write k reg (get_or vs 0 0))
-one_value k reg [] e = absurd (omega arith)
-one_value k reg (v ∷ []) e = refl
-one_value k reg (v ∷ w ∷ vs) e = absurd (omega arith)
-
-pub other_values : (k : Kind) (reg : ℕ) (vs : List ℕ) → ¬ (length vs ≡ 1) → write_by reg vs (one k) ≡ stop bad_request
-other_values k reg [] n = refl
-other_values k reg (v ∷ []) n = absurd (n refl)
-other_values k reg (v ∷ w ∷ vs) n = refl
-
-pub many_values : (k : Kind) (reg : ℕ) (vs : List ℕ) → write_by reg vs (many k) ≡ go (writes k reg vs)
-many_values k reg [] = refl
-many_values k reg (v ∷ []) = refl
-many_values k reg (v ∷ w ∷ vs) = refl
 
 -- what `to_be_bytes` makes of a 16-bit number
 pub two_bytes : (x : ℕ) (l : List ℕ) → x < 65536 → l ≡ to_be_bytes w16 x → (get_or l 0 0 ≡ x / 256) × (get_or l 1 0 ≡ x % 256)

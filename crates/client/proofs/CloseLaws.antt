@@ -30,7 +30,8 @@ use Rattle.requests.specs.Judged.{weighed}
 use Rattle.client.specs.declared.ModbusRequest.{ModbusRequest}
 use Rattle.client.specs.Asking.{bad_request, silent, tag_to, every_cell, laid_into}
 use Rattle.client.specs.Hearing.{failed, roomed, framed, body_sent}
-use Rattle.client.proofs.BuildLaws.{by_step, or_go, or_stop, two_bytes}
+use Rattle.client.proofs.FunctionLaws.{by_step}
+use Rattle.client.proofs.BuildLaws.{or_go, or_stop, two_bytes}
 
 -- ---- numbers of each transport
 

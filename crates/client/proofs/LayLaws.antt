@@ -235,22 +235,10 @@ module _ (l after : List ℕ) (n i v : ℕ) (r : DoneAnswer) (few : n ≤ 1968) 
   put_word Bits q long e = let z : ◌≡◌ {A = ℕ} 0 1 = cc in absurd (omega arith)
   put_word Words q long e = cell_put registers l after n i v r (omega arith, long) inside e
 
-pub octets_lt : (b : CellKind) (n : ℕ) → octets (kind_in b) n ≤ 2 * n + 7
-octets_lt Bits n = omega arith
-octets_lt Words n = omega arith
-
-pub cell_bit : (b : CellKind) (d : List ℕ) (i : ℕ) → b ≡ Bits → coil_at d i ≡ datum (kind_in b) d i
-cell_bit Bits d i q = refl
-cell_bit Words d i q = let z : ◌≡◌ {A = ℕ} 0 1 = cc in absurd (omega arith)
-
 pub cell_word : (b : CellKind) (d : List ℕ) (i : ℕ) → b ≡ Words → word_at d (2 * i) ≡ datum (kind_in b) d i
 unfolding register_at
 cell_word Bits d i q = let z : ◌≡◌ {A = ℕ} 0 1 = cc in absurd (omega arith)
 cell_word Words d i q = refl
-
-pub few_bits : (b : CellKind) (n m : ℕ) → b ≡ Bits → octets (kind_in b) n ≤ m → n ≤ 8 * m
-few_bits Bits n m q h = omega arith
-few_bits Words n m q h = let z : ◌≡◌ {A = ℕ} 0 1 = cc in absurd (omega arith)
 
 -- values for one write: not too many, and each one fits its cell
 abbrev pub Fitting : CellKind → List ℕ → Type 0

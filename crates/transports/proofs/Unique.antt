@@ -1,6 +1,6 @@
 -- Each contract leaves one possible result, and one possible content of every lent buffer; that of an opening one possible body.
 -- Assumes nothing.
-use Rattle.std.proofs.Common.{◌≡◌, ℕ, ◌≤◌, List, take, drop, sym, refl, ap, ◌∙◌}
+use Rattle.std.proofs.Common.{◌≡◌, ℕ, List, take, drop, sym, refl, ap, ◌∙◌}
 use Rattle.std.specs.Prelude.{Result, Ok, Option}
 use contract.Lifetimes.{Lfts}
 use borrow.Fn.Kinds.{Dens, res_t, ended_of}

@@ -2,13 +2,13 @@
 -- Assumes nothing.
 use mathlib.Core.Path.{sym, ap, ◌∙◌}
 use native.Mathlib.Omega.{arith}
-use lib.ListN.{length}
 use Rattle.std.proofs.lemmas.Result.{err_from_is_err_and}
 use Rattle.modbus.specs.Paper.{proto_of}
 use Rattle.client.proofs.StrictLaws.{strict}
 use Rattle.client.specs.Asking.{read_into}
 use Rattle.client.specs.Hearing.{message_in}
-use Rattle.client.proofs.HearLaws.{transport_high, unopened, opened_to, replied_said, replied_failed}
+use Rattle.client.proofs.HearLaws.{transport_high, unopened, opened_to}
+use Rattle.client.proofs.SaidLaws.{replied_said, replied_failed}
 use Rattle.client.proofs.hear_reply.Goals as goal
 
 pub returns-then-proto-gt2 : goal.returns-then-proto-gt2

@@ -1,15 +1,10 @@
 -- `client::shown_by` meets its contract: what the verdict on the body tells.
 -- Assumes nothing.
-use mathlib.Core.Path.{◌≡◌, refl, ap, ◌∙◌}
-use mathlib.Core.List.{List}
-use Prim.Native.Nat.{ℕ, ◌<◌}
+use mathlib.Core.Path.{refl, ap, ◌∙◌}
 use native.Mathlib.Omega.{arith}
-use lib.ListN.{get_or}
-use Rattle.std.specs.Prelude.{Ok, MatchResult}
-use Rattle.requests.specs.Judged.{Verdict, judged, verdict_paper}
+use Rattle.std.specs.Prelude.{Ok}
 use Rattle.client.specs.Asking.{every_cell}
-use Rattle.client.specs.Hearing.{Said, Unsaid}
-use Rattle.client.proofs.HearLaws.{shown_by, verdict_said}
+use Rattle.client.proofs.SaidLaws.{verdict_said}
 use Rattle.client.proofs.shown_by.Goals as goal
 
 pub returns-in-Ok-Read-clause-ok : goal.returns-in-Ok-Read-clause-ok

@@ -4,7 +4,8 @@ use mathlib.Core.Path.{sym, ap, ◌∙◌}
 use native.Mathlib.Omega.{arith}
 use lib.ListN.{length}
 use Rattle.client.specs.Asking.{laid_into}
-use Rattle.client.proofs.BuildLaws.{generated_none, getting_high, get_built}
+use Rattle.client.proofs.BuildLaws.{generated_none, get_built}
+use Rattle.client.proofs.FunctionLaws.{getting_high}
 use Rattle.client.proofs.ModbusRequest.generate_get.Goals as goal
 
 pub returns-then-func-gt4 : goal.returns-then-func-gt4

@@ -7,7 +7,8 @@ use Rattle.modbus.specs.Step.{Step}
 use Rattle.modbus.specs.Table.{bit, word}
 use Rattle.modbus.specs.Request.{one, many, Ask}
 use Rattle.client.specs.Asking.{Declined, generated, laid_into}
-use Rattle.client.proofs.BuildLaws.{generated_none, setting_by, setting_none}
+use Rattle.client.proofs.BuildLaws.{generated_none}
+use Rattle.client.proofs.FunctionLaws.{setting_by, setting_none}
 use Rattle.client.proofs.build.set.Goals as goal
 
 pub returns-in-5 : goal.returns-in-5

@@ -1,7 +1,5 @@
 -- `client::hear::shown_kind` meets its contract: coils and discretes have the lowest functions.
 -- Assumes nothing.
-use mathlib.Core.Path.{sym}
-use native.Mathlib.Omega.{arith}
 use Rattle.client.proofs.HearLaws.{kind_bits, kind_words}
 use Rattle.client.proofs.hear.shown_kind.Goals as goal
 

@@ -1,7 +1,6 @@
 -- `client::lay::lay` meets its contract. The loop's invariant: the values that are left take the bytes to the result.
 -- Assumes nothing.
 use mathlib.Core.Path.{◌≡◌}
-use Prim.Native.Nat.{◌-◌, ◌≤◌}
 use lib.ListN.{length, drop}
 use Rattle.modbus.specs.Table.{target}
 use Rattle.modbus.specs.Storage.{storage, store}

@@ -1,8 +1,7 @@
 -- `client::lay::spread` meets its contract. The loop's invariant: the cells that are left take the values to the result.
 -- Assumes nothing.
-use mathlib.Core.Path.{sym, refl}
+use mathlib.Core.Path.{sym}
 use native.Mathlib.Omega.{arith}
-use lib.ListN.{length}
 use lib.Seq.{length-take-le}
 use Rattle.modbus.specs.Paper.{kind_in}
 use Rattle.modbus.specs.Storage.{datum, values}

@@ -1,8 +1,7 @@
 -- `client::lay::spread` meets its contract. The loop's invariant: the cells that are left take the values to the result.
 -- Assumes nothing.
 use mathlib.Core.Path.{◌≡◌}
-use Prim.Native.Nat.{◌-◌, ◌≤◌}
-use lib.ListN.{length}
+use Prim.Native.Nat.{◌-◌}
 use lib.Seq.{sets}
 use Rattle.modbus.specs.Table.{part}
 use Rattle.modbus.specs.Storage.{datum, values}

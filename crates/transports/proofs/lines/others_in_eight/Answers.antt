@@ -1,6 +1,6 @@
 -- `transports::lines::others_in_eight` meets its contract. The loop's invariant: if there was no other character, those passed are digits.
 -- Assumes nothing.
-use Rattle.std.proofs.Common.{ℕ, ◌+◌, ◌-◌, ◌<◌, drop, subst, ◌∙◌, arith, length-take, get_or-drop, get_or-take}
+use Rattle.std.proofs.Common.{◌+◌, ◌-◌, ◌<◌, drop, subst, ◌∙◌, arith, length-take, get_or-drop, get_or-take}
 use Rattle.ascii.specs.Plain.{Digit}
 use Rattle.ascii.proofs.PlainLaws.{other_none}
 use Rattle.transports.proofs.LinesLaws.{digits_more}
