@@ -1,6 +1,6 @@
 -- A verdict as it is carried out, before its reply is put into a frame: for the contracts of private functions.
 -- Assumes nothing.
-use Rattle.std.specs.Prelude.{Bool, true, false, ◌≡◌, List, [], ◌∷◌, Option, None, Some, Ok, Err, ℕ, zero, suc, ◌+◌, ◌*◌, ◌/◌, ◌%◌, ◌≤◌, length, take, drop, get_or}
+use Rattle.std.specs.Prelude.{Bool, true, false, ◌≡◌, List, [], ◌∷◌, Option, None, Some, Result, Ok, Err, ℕ, zero, suc, ◌+◌, ◌*◌, ◌/◌, ◌%◌, ◌≤◌, length, take, drop, get_or}
 use Rattle.std.proofs.lemmas.List.Edits.{sets}
 use Rattle.modbus.specs.Table.{Kind, bit, word, Tab, coils, discretes, holdings, inputs, kind_of, target, Range, part}
 use Rattle.modbus.specs.Request.{tab_of, octets, masked, shown, exception, most_read}
@@ -16,6 +16,7 @@ use Rattle.requests.specs.declared.Mask.{Mask}
 use Rattle.requests.specs.declared.Exchange.{Exchange}
 use Rattle.requests.specs.declared.Request.TheVariants as request
 use Rattle.requests.specs.declared.Code.{Code}
+use Rattle.requests.specs.declared.Refusal.{Refusal}
 use Rattle.requests.specs.Judged.{Verdict, refusal_paper, code_number, spoken}
 use Rattle.driver.specs.declared.Setup.{Setup as Numbers}
 use Rattle.driver.specs.declared.Driven.{Driven}
@@ -193,3 +194,8 @@ Good n c d h i = (n.transport ≤ 2) × (n.hex ≤ 1) × Few n × Long n c d h i
 -- a call whose frame is taken apart to this body
 abbrev pub handled : Call → List ℕ → List ℕ → Leaves
 handled l tag b = settled l (from_unit (setup_of l) (record { tag = tag; body = b }))
+
+-- a refusal before there is a body tells its outcome and code, and nothing is sent
+abbrev pub driven_by : Result Driven Refusal → Driven
+driven_by (Ok d) = d
+driven_by (Err r) = resulting (refusal_paper r).0 (refusal_paper r).2 0 []
