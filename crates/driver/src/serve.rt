@@ -51,7 +51,7 @@ fn echo(body: &[u8], n: usize, reply: &mut [u8], start: usize) -> usize
     requires { (n ≤ length body.now) × (start + n ≤ length reply.old) }
     ensures { (result, reply.new) ≡ put_at start reply.old (take n body.now) }
 {
-    extend(reply, start, &body[0..n]);
+    reply[start..start + n].copy_from_slice(&body[..n]);
     n
 }
 
