@@ -1,6 +1,5 @@
 -- `driver::handle` meets its contract: what was judged, served and closed make up the call.
 -- Assumes nothing.
-use mathlib.Core.Path.{◌∙◌}
 use native.Mathlib.Omega.{arith}
 use Rattle.modbus.specs.Paper.{proto_of}
 use Rattle.driver.proofs.HandleLaws.{start_room, body_ready, served_brief, served_room, closed_handled}
