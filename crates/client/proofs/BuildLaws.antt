@@ -1,35 +1,35 @@
 -- A request's body says the request exactly if that may be asked: so the verdict on the body decides what is built.
 -- Assumes nothing.
-use mathlib.Core.Bool.{Bool, true, false}
+use mathlib.Core.Bool.{false}
+use Rattle.std.specs.Prelude.{is_err}
 use mathlib.Core.Logic.{⊎_elim, by_cases}
 use mathlib.Core.Path.{◌≡◌, refl, sym, ap, ap₂, ◌∙◌, subst}
-use mathlib.Core.List.{List, [], ◌∷◌, ◌++◌}
+use mathlib.Core.List.{List, ◌∷◌, ◌++◌}
 use Prim.Native.Nat.{ℕ, ◌+◌, ◌-◌, ◌*◌, ◌/◌, ◌%◌, ◌≤◌, ◌<◌}
 use native.Mathlib.Omega.{arith}
 use native.Mathlib.Nat.{div-add-mod'}
+use Rattle.std.specs.Int.{w16, to_be_bytes}
 use lib.ListN.{length, get_or, length-replicate}
 use Rattle.modbus.specs.Step.{Step, stop, go, ◌≤?◌}
 use Rattle.modbus.specs.Bytes.{All, two}
-use Rattle.modbus.specs.Table.{Kind, bit, word, coils, discretes, holdings, inputs, Fits}
-use Rattle.modbus.specs.Request.{Fn, reads, one, many, mask, both, code, Ask, read, write, writes, masks, swaps, fn_of, most_written, Permitted, octets, Pads, pdu, wire, shown}
+use Rattle.modbus.specs.Table.{Kind, bit, word, Fits}
+use Rattle.modbus.specs.Request.{Fn, reads, one, many, mask, both, code, Ask, read, write, writes, masks, swaps, fn_of, most_written, Permitted, octets, Pads, pdu, shown}
 use Rattle.modbus.specs.Paper.{proto_of}
 use Rattle.modbus.specs.Setup.{Setup}
 use Rattle.modbus.specs.Decode.{Valued, asked}
 use Rattle.modbus.specs.Drive.{Inside, inside?}
-use Rattle.modbus.specs.declared.Answer.{Answer}
 use Rattle.modbus.proofs.StepLaws.{pass, fail, follow, halt}
 use Rattle.modbus.proofs.FindLaws.{find_fn, found_fn, found_fault}
 use Rattle.modbus.proofs.WeighLaws.{weigh_goes, went}
 use Rattle.modbus.proofs.RequestLaws.{says_heard}
-use Rattle.requests.specs.Judged.{weighed, judged, kind_by}
-use Rattle.requests.specs.declared.Write.TheVariants.{Bits, Words}
-use Rattle.requests.specs.declared.Verdict.{Verdict}
-use Rattle.requests.specs.declared.Verdict.TheVariants.{Read, Written, Masked, Exchanged, Refused, Quiet}
-use Rattle.requests.proofs.FineLaws.{Fine, fine}
+use Rattle.requests.specs.Judged.{Verdict, weighed, judged, kept_by, verdict_paper}
+use Rattle.requests.specs.declared.Refusal.{Refusal}
+use Rattle.requests.proofs.Unique.{verdict_paper_law}
 use Rattle.client.specs.declared.ModbusRequest.{ModbusRequest}
-use Rattle.client.specs.Asking.{Declined, bad_request, or_bad_request, permitted?, every_cell, function_of, read_by, write_by, getting, setting, padding, body_to, generated, laid_into}
-use Rattle.client.specs.Hearing.{failed, body_sent, many_body, both_body, declining}
+use Rattle.client.specs.Asking.{Declined, bad_request, or_bad_request, permitted?, every_cell, function_of, read_by, write_by, getting, padding, body_to, generated}
+use Rattle.client.specs.Hearing.{failed, body_sent, many_body, both_body}
 use Rattle.client.proofs.LayLaws.{zero_bits}
+use Rattle.client.proofs.FunctionLaws.{by_step, one_value, other_values, many_values}
 
 -- ---- functions have different numbers
 
@@ -112,13 +112,8 @@ pub or_stop : {F A : Type 0} (s : Step F A) {x : F} → s ≡ stop x → or_bad_
 unfolding or_bad_request
 or_stop s e = rw e
 
--- a run went or stopped
-pub by_step : {F A C : Type 0} (s : Step F A) → ((a : A) → s ≡ go a → C) → ((x : F) → s ≡ stop x → C) → C
-by_step (go a) f g = f a refl
-by_step (stop x) f g = g x refl
-
 module _ (to : ModbusRequest) (a : Ask) (room : ℕ) (sized : Sized a) where
-  abbrev weight : Step Verdict Ask
+  abbrev weight : Step Refusal Ask
   weight = weighed (every_cell to.proto) false (body_to to a)
 
   refuses : to.proto ≤ 2 → ¬ (Permitted a × Inside (every_cell to.proto) a) → body_sent to (body_to to a) room ≡ stop bad_request
@@ -153,101 +148,19 @@ module _ (to : ModbusRequest) (wanted : Step Declined Ask) (room : ℕ) where
   generated_not a e n =
       by_cases (to.proto ≤? 2) (λ h. pass _ _ _ h ∙ follow _ _ e ∙ fail _ _ _ n) (λ h. fail _ _ _ h)
 
--- a refusal in numbers
-pub declined_bad : (out : List ℕ) (s : Step Declined (List ℕ)) (r : Answer) → r ≡ declining 11 → s ≡ stop bad_request
-    → ◌≡◌ {A = Answer × List ℕ} (r, out) (laid_into out s)
-declined_bad out s r e q = ap (λ (x : Answer). (x, out)) e ∙ sym (ap (laid_into out) q)
-
 -- ---- the verdict on a body
 
-abbrev pub refusing : Verdict → Bool
-refusing (Read q) = false
-refusing (Written w) = false
-refusing (Masked m) = false
-refusing (Exchanged x) = false
-refusing (Refused c) = true
-refusing (Quiet o c) = true
+kept_fails : (w : Step Refusal Ask) → is_err (kept_by w) ≡ failed w
+kept_fails (stop r) = refl
+kept_fails (go a) = refl
 
-module _ (s : Setup) (b : List ℕ) (bytes : (i : ℕ) → get_or b i 0 < 256) (r : Verdict) (e : r ≡ judged s false b) where
-  pub verdict_fails : (q : Verdict) → r ≡ q → refusing q ≡ failed (weighed s false b)
-  verdict_fails q f = by q (fine s false b bytes e f)
-    where
-      by : (q : Verdict) → Fine s false b q → refusing q ≡ failed (weighed s false b)
-      by (Read q) h = sym (ap failed h.goes)
-      by (Written (Bits c)) h = sym (ap failed h.goes)
-      by (Written (Words c)) h = sym (ap failed h.goes)
-      by (Masked m) h = sym (ap failed h.goes)
-      by (Exchanged x) h = sym (ap failed h.goes)
-      by (Refused c) h = sym (ap failed h.0)
-      by (Quiet o c) h = sym (ap failed h)
+pub verdict_fails : (s : Setup) (b : List ℕ) (v : Verdict) → verdict_paper v ≡ verdict_paper (judged s false b) → is_err v ≡ failed (weighed s false b)
+unfolding judged
+verdict_fails s b v e = ap is_err (verdict_paper_law _ _ e) ∙ kept_fails (weighed s false b)
 
--- ---- which function it is
-
--- a number above 4 reads nothing
-read_high : (reg count : ℕ) (fn : Fn) → 4 < code fn → read_by reg count fn ≡ stop bad_request
-read_high reg count (reads coils) h = absurd (omega arith)
-read_high reg count (reads discretes) h = absurd (omega arith)
-read_high reg count (reads holdings) h = absurd (omega arith)
-read_high reg count (reads inputs) h = absurd (omega arith)
-read_high reg count (one k) h = refl
-read_high reg count (many k) h = refl
-read_high reg count mask h = refl
-read_high reg count both h = refl
-
-module _ (n func reg count : ℕ) where
-  pub getting_high : 4 < func → getting n func reg count ≡ stop bad_request
-  unfolding getting
-  getting_high h =
-      by_step (function_of n func)
-      (λ fn e. follow _ _ e ∙ read_high reg count fn (rw (found_fn code _ _ _ fn e) at h))
-      (λ x e. halt _ _ (e ∙ ap stop (sym (found_fault code _ _ _ e))))
-
--- what is asked of a number is asked of its function
-pub setting_by : (n func reg : ℕ) (vs : List ℕ) (fn : Fn) → func ≡ code fn → setting n func reg vs ≡ write_by reg vs fn
-unfolding setting
-setting_by n func reg vs fn e = follow _ _ (find_fn bad_request func (proto_of n) fn e)
-
-write_none : (reg : ℕ) (vs : List ℕ) (fn : Fn) → ¬ (code fn ≡ 5) → ¬ (code fn ≡ 6) → ¬ (code fn ≡ 15) → ¬ (code fn ≡ 16)
-    → write_by reg vs fn ≡ stop bad_request
-write_none reg [] (reads t) a b c d = refl
-write_none reg (v ∷ []) (reads t) a b c d = refl
-write_none reg (v ∷ w ∷ vs) (reads t) a b c d = refl
-write_none reg vs (one bit) a b c d = absurd (a refl)
-write_none reg vs (one word) a b c d = absurd (b refl)
-write_none reg vs (many bit) a b c d = absurd (c refl)
-write_none reg vs (many word) a b c d = absurd (d refl)
-write_none reg [] mask a b c d = refl
-write_none reg (v ∷ []) mask a b c d = refl
-write_none reg (v ∷ w ∷ vs) mask a b c d = refl
-write_none reg [] both a b c d = refl
-write_none reg (v ∷ []) both a b c d = refl
-write_none reg (v ∷ w ∷ vs) both a b c d = refl
-
-pub setting_none : (n func reg : ℕ) (vs : List ℕ) → ¬ (func ≡ 5) → ¬ (func ≡ 6) → ¬ (func ≡ 15) → ¬ (func ≡ 16)
-    → setting n func reg vs ≡ stop bad_request
-unfolding setting
-setting_none n func reg vs a b c d =
-    by_step (function_of n func)
-    (λ fn e.
-    let q = found_fn code _ _ _ fn e in
-    follow _ _ e ∙ write_none reg vs fn (λ z. a (q ∙ z)) (λ z. b (q ∙ z)) (λ z. c (q ∙ z)) (λ z. d (q ∙ z)))
-    (λ x e. halt _ _ (e ∙ ap stop (sym (found_fault code _ _ _ e))))
-
--- exactly one value
-pub one_value : (k : Kind) (reg : ℕ) (vs : List ℕ) → length vs ≡ 1 → write_by reg vs (one k) ≡ go (write k reg (get_or vs 0 0))
-one_value k reg [] e = absurd (omega arith)
-one_value k reg (v ∷ []) e = refl
-one_value k reg (v ∷ w ∷ vs) e = absurd (omega arith)
-
-pub other_values : (k : Kind) (reg : ℕ) (vs : List ℕ) → ¬ (length vs ≡ 1) → write_by reg vs (one k) ≡ stop bad_request
-other_values k reg [] n = refl
-other_values k reg (v ∷ []) n = absurd (n refl)
-other_values k reg (v ∷ w ∷ vs) n = refl
-
-pub many_values : (k : Kind) (reg : ℕ) (vs : List ℕ) → write_by reg vs (many k) ≡ go (writes k reg vs)
-many_values k reg [] = refl
-many_values k reg (v ∷ []) = refl
-many_values k reg (v ∷ w ∷ vs) = refl
+-- what `to_be_bytes` makes of a 16-bit number
+pub two_bytes : (x : ℕ) (l : List ℕ) → x < 65536 → l ≡ to_be_bytes w16 x → (get_or l 0 0 ≡ x / 256) × (get_or l 1 0 ≡ x % 256)
+two_bytes x l h e = (ap (λ (m : List ℕ). get_or m 0 0) e ∙ omega arith, ap (λ (m : List ℕ). get_or m 1 0) e)
 
 -- ---- what each builder lays
 
@@ -287,18 +200,18 @@ module _ (to : ModbusRequest) (room : ℕ) where
           (λ p. fail _ _ _ p)
 
   -- many values, whose data are shown
-  pub many_built : (b : Bool) (reg : ℕ) (vs d : List ℕ) (c o : ℕ) → All (Fits (kind_by b)) vs → d ≡ shown (kind_by b) vs → c ≡ code (many (kind_by b))
-      → o ≡ octets (kind_by b) (length vs) → generated to (write_by reg vs (many (kind_by b))) room ≡ body_sent to (many_body to c reg (length vs) o d) room
-  many_built b reg vs d c o p e q n = by b p ∙ sym (ap (λ (l : List ℕ). body_sent to l room) (same ∙ ap₂ (λ (i : ℕ) (x : List ℕ). many_body to i reg (length vs) (octets (kind_by b) (length vs)) x) q e))
+  pub many_built : (k : Kind) (reg : ℕ) (vs d : List ℕ) (c o : ℕ) → All (Fits k) vs → d ≡ shown k vs → c ≡ code (many k)
+      → o ≡ octets k (length vs) → generated to (write_by reg vs (many k)) room ≡ body_sent to (many_body to c reg (length vs) o d) room
+  many_built k reg vs d c o p e q n = by k p ∙ sym (ap (λ (l : List ℕ). body_sent to l room) (same ∙ ap₂ (λ (i : ℕ) (x : List ℕ). many_body to i reg (length vs) (octets k (length vs)) x) q e))
     where
-      same : many_body to c reg (length vs) o d ≡ many_body to c reg (length vs) (octets (kind_by b) (length vs)) d
+      same : many_body to c reg (length vs) o d ≡ many_body to c reg (length vs) (octets k (length vs)) d
       same = ap (λ (i : ℕ). many_body to c reg (length vs) i d) n
 
-      by : (b : Bool) → All (Fits (kind_by b)) vs
-          → generated to (write_by reg vs (many (kind_by b))) room
-          ≡ body_sent to (many_body to (code (many (kind_by b))) reg (length vs) (octets (kind_by b) (length vs)) (shown (kind_by b) vs)) room
-      by true p = ap (λ (w : Step Declined Ask). generated to w room) (many_values bit reg vs) ∙ generated_body to (writes bit reg vs) room p
-      by false p = ap (λ (w : Step Declined Ask). generated to w room) (many_values word reg vs) ∙ generated_body to (writes word reg vs) room p
+      by : (k : Kind) → All (Fits k) vs
+          → generated to (write_by reg vs (many k)) room
+          ≡ body_sent to (many_body to (code (many k)) reg (length vs) (octets k (length vs)) (shown k vs)) room
+      by bit p = ap (λ (w : Step Declined Ask). generated to w room) (many_values bit reg vs) ∙ generated_body to (writes bit reg vs) room p
+      by word p = ap (λ (w : Step Declined Ask). generated to w room) (many_values word reg vs) ∙ generated_body to (writes word reg vs) room p
 
   -- and what does not fit is not built
   pub many_unbuilt : (k : Kind) (reg : ℕ) (vs : List ℕ) → ¬ ((length vs ≤ most_written k) × All (Fits k) vs)
@@ -327,18 +240,3 @@ module _ (to : ModbusRequest) (room : ℕ) where
 
   pub both_unbuilt : (reg count at : ℕ) (vs : List ℕ) → 121 < length vs → generated to (go (swaps reg count at vs)) room ≡ stop bad_request
   both_unbuilt reg count at vs h = generated_not to _ room (swaps reg count at vs) refl (λ p. omega (arith, p.3))
-
--- a coil's value in two bytes
-pub coil_bytes : (v : ℕ) → 255 * v ∷ 0 ∷ [] ≡ two (wire bit v)
-coil_bytes v =
-    let h : 255 * v ≡ 0xFF00 * v / 256 = omega arith in
-    let l : 0 ≡ 0xFF00 * v % 256 = omega arith in
-    rw (h, ← l) refl
-
-pub many_15 : (b : Bool) → b ≡ true → 15 ≡ code (many (kind_by b))
-many_15 true q = refl
-many_15 false q = let z : ◌≡◌ {A = ℕ} 0 1 = cc in absurd (omega arith)
-
-pub many_16 : (b : Bool) → b ≡ false → 16 ≡ code (many (kind_by b))
-many_16 true q = let z : ◌≡◌ {A = ℕ} 0 1 = cc in absurd (omega arith)
-many_16 false q = refl

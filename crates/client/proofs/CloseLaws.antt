@@ -5,12 +5,15 @@ use mathlib.Core.Path.{◌≡◌, refl, sym, ap, ap₂, ◌∙◌}
 use mathlib.Core.List.{List, ◌++◌, append_assoc}
 use Prim.Native.Nat.{ℕ, ◌+◌, ◌≤◌, ◌<◌}
 use native.Mathlib.Omega.{arith}
-use lib.ListN.{length, take, drop, length-drop, length-append}
+use lib.ListN.{length, get_or, take, drop, length-drop, length-append}
+use Rattle.std.specs.Prelude.{Option, Some}
+use Rattle.std.specs.Int.{w16, to_be_bytes}
 use lib.Seq.{sets, sets-eq, length-sets, length-take-le, take_at, drop_at}
 use Rattle.modbus.specs.Step.{stop}
 use Rattle.modbus.specs.Paper.{proto_of, told_with, size_paper}
 use Rattle.modbus.specs.Setup.{room_for}
 use Rattle.modbus.specs.Frame.{tag_of, tag_length, start_of, around}
+use Rattle.modbus.specs.Decode.{no_room_quiet}
 use Rattle.modbus.specs.declared.Answer.{Answer}
 use Rattle.modbus.specs.declared.SizeAnswer.{SizeAnswer}
 use Rattle.modbus.specs.declared.ModbusProto.{ModbusProto}
@@ -22,11 +25,13 @@ use Rattle.response.specs.Bounded.{extended}
 use Rattle.response.proofs.BoundedLaws.{extended_put}
 use Rattle.transports.specs.Sealed.{sealed}
 use Rattle.transports.proofs.SealedLaws.{sealed_room}
+use Rattle.transports.proofs.ProtoLaws.{start_six}
 use Rattle.requests.specs.Judged.{weighed}
 use Rattle.client.specs.declared.ModbusRequest.{ModbusRequest}
-use Rattle.client.specs.Asking.{bad_request, tag_to, every_cell, laid_into}
-use Rattle.client.specs.Hearing.{failed, roomed, framed, body_sent, declining}
-use Rattle.client.proofs.BuildLaws.{by_step, or_go, or_stop}
+use Rattle.client.specs.Asking.{bad_request, silent, tag_to, every_cell, laid_into}
+use Rattle.client.specs.Hearing.{failed, roomed, framed, body_sent}
+use Rattle.client.proofs.FunctionLaws.{by_step}
+use Rattle.client.proofs.BuildLaws.{or_go, or_stop, two_bytes}
 
 -- ---- numbers of each transport
 
@@ -34,11 +39,6 @@ pub tag_length_law : (p : ModbusProto) (high low : ℕ) → length (tag_of p hig
 tag_length_law Rtu high low = refl
 tag_length_law Ascii high low = refl
 tag_length_law TcpUdp high low = refl
-
-pub start_six : (p : ModbusProto) → start_of p ≤ 6
-start_six Rtu = omega arith
-start_six Ascii = omega arith
-start_six TcpUdp = omega arith
 
 room_511 : (p : ModbusProto) → room_for p ≤ 511
 room_511 Rtu = omega arith
@@ -66,31 +66,38 @@ module _ (to : ModbusRequest) (n : ℕ) (frame : List ℕ) (small : n ≤ 253) (
       length_wrap p (tag_to to) (take n (drop (start_of p) frame)) (tag_length_law p _ _)
       ∙ ap (around p) (length-take-le n (drop (start_of p) frame) (omega arith))
 
-  module _ (len : ℕ) (after : List ℕ) (e : ◌≡◌ {A = ℕ × List ℕ} (len, after) (sealed p (tag_to to) n frame)) where
-    sealed_is : ◌≡◌ {A = ℕ × List ℕ} (len, after) (around p n, sets frame 0 whole)
-    sealed_is = e ∙ sealed_room p (tag_to to) n frame (omega (arith, room_511 p)) small
+  -- the transaction number goes in as two bytes
+  pub sealed_tagged : (o : Option ℕ) (after l : List ℕ) → l ≡ to_be_bytes w16 to.tr_id → to.tr_id < 65536
+      → ◌≡◌ {A = Option ℕ × List ℕ} (o, after) (sealed p (tag_of p (get_or l 0 0) (get_or l 1 0)) n frame)
+      → ◌≡◌ {A = Option ℕ × List ℕ} (o, after) (sealed p (tag_to to) n frame)
+  sealed_tagged o after l e h q = let b = two_bytes to.tr_id l h e in rw (b.0, b.1) at q
 
+  -- it is sealed: there is room
+  pub sealed_some : (o : Option ℕ) (after : List ℕ) → ◌≡◌ {A = Option ℕ × List ℕ} (o, after) (sealed p (tag_to to) n frame) → o ≡ Some (length whole)
+  sealed_some o after e =
+      ap (λ (x : Option ℕ × List ℕ). x.0) (e ∙ sealed_room p (tag_to to) n frame (omega (arith, room_511 p)) small) ∙ ap Some (sym whole_length)
+
+  module _ (len : ℕ) (after : List ℕ) (e : ◌≡◌ {A = Option ℕ × List ℕ} (Some len, after) (sealed p (tag_to to) n frame)) where
     pub sealed_length : len ≡ length whole
-    sealed_length = ap (λ (x : ℕ × List ℕ). x.0) sealed_is ∙ sym whole_length
+    sealed_length = let z = sealed_some (Some len) after e in cc
+
+    left : after ≡ sets frame 0 whole
+    left = ap (λ (x : Option ℕ × List ℕ). x.1) (e ∙ sealed_room p (tag_to to) n frame (omega (arith, room_511 p)) small)
 
     pub sealed_fits : len ≤ length after
     sealed_fits =
-        let q = ap (λ (x : ℕ × List ℕ). x.1) sealed_is in
         let k = length-sets frame 0 whole in
-        let m = ap length q in
+        let m = ap length left in
         omega (arith, sealed_length, whole_length, around_511 p n small)
 
     pub sealed_front : take len after ≡ whole
     sealed_front =
         let fits : 0 + length whole ≤ length frame = omega (arith, whole_length, around_511 p n small) in
-        ap (take len) (ap (λ (x : ℕ × List ℕ). x.1) sealed_is ∙ sets-eq whole frame 0 fits) ∙ take_at whole _ len (sym sealed_length)
+        ap (take len) (left ∙ sets-eq whole frame 0 fits) ∙ take_at whole _ len (sym sealed_length)
 
     module _ (out : List ℕ) where
-      pub no_room : length out < len → (r : Answer) → r ≡ declining 9
-          → ◌≡◌ {A = Answer × List ℕ} (r, out) (laid_into out (roomed whole (length out)))
-      no_room h r q =
-          let k = sealed_length in
-          ap (λ (x : Answer). (x, out)) q ∙ sym (ap (laid_into out) (fail _ _ _ (λ i. omega arith)))
+      pub no_room : length out < len → roomed whole (length out) ≡ stop (silent no_room_quiet)
+      no_room h = let k = sealed_length in fail _ _ _ (λ i. omega arith)
 
       pub laid : ¬ (length out < len) → (r : SizeAnswer) (over : List ℕ)
           → ◌≡◌ {A = (ℕ × ℕ) × List ℕ} (size_paper r, over) (told_with out (extended out 0 (take len after)))

@@ -1,37 +1,32 @@
 -- A reply held against its request: each way out of reading, and the request that its frame says.
 -- Assumes nothing.
-use mathlib.Core.Bool.{false}
-use mathlib.Core.Logic.{inl, inr, by_cases}
-use mathlib.Core.Path.{◌≡◌, refl, sym, ap, ap₂, ◌∙◌, subst}
+use mathlib.Core.Bool.{Bool, true, false, not}
+use lib.Dec.{eqb}
+use Rattle.std.specs.Bool.{Decides}
+use Rattle.std.specs.Cmp.Lexicographic.{pointwise}
+use Rattle.std.proofs.Common.{⊎_elim}
+use Rattle.std.proofs.lemmas.Bool.{false≢true}
+use Rattle.std.proofs.lemmas.Bool.Decides.{eqb_tells}
+use Rattle.std.proofs.lemmas.Slice.Eq.{bytes_eq-Decides}
+use mathlib.Core.Logic.{by_cases}
+use mathlib.Core.Path.{◌≡◌, refl, sym, ap, ap₂, ◌∙◌}
 use mathlib.Core.List.{List, [], ◌∷◌, head-eq_of_cons-eq, tail-eq_of_cons-eq}
-use Prim.Native.Nat.{ℕ, zero, suc, ◌+◌, ◌-◌, ◌≤◌, ◌<◌}
+use Prim.Native.Nat.{ℕ, zero, suc, ◌+◌, ◌-◌, ◌*◌, ◌≤◌, ◌<◌}
 use native.Mathlib.Omega.{arith}
-use lib.Dec.{ltb}
-use lib.ListN.{length, get_or, take, drop, length-take, length-drop}
-use lib.Seq.{sets, ext_get_or, get_or-take, length-take-le, take-length}
-use Rattle.modbus.specs.Step.{Step, stop, go, ◌>>=◌, ◌≟◌}
+use Rattle.std.specs.Prelude.{Some, None}
+use lib.ListN.{length, get_or, take, drop, length-drop}
+use lib.Seq.{sets, take-length}
+use Rattle.modbus.specs.Step.{Step, stop, go, choose, ◌>>=◌, ◌≟◌, same?}
 use Rattle.modbus.specs.Table.{Kind, bit, word, coils, discretes, holdings, inputs}
-use Rattle.modbus.specs.Request.{mask, code, Ask, read, write, writes, masks, swaps, fn_of, most_read, octets}
+use Rattle.modbus.specs.Request.{code, Ask, read, write, writes, masks, swaps, fn_of, most_read, octets}
 use Rattle.modbus.specs.Storage.{values}
 use Rattle.modbus.specs.Paper.{proto_of}
 use Rattle.modbus.specs.Frame.{tag_of}
-use Rattle.modbus.specs.Decode.{Message, unit_of, Silent, no_room_quiet, IsRead, unwrap, asked}
-use Rattle.modbus.proofs.StepLaws.{pass, fail, follow, halt, pick_yes, pick_no}
+use Rattle.modbus.specs.Decode.{Message, unit_of, Silent, no_room_quiet, IsRead, unwrap}
+use Rattle.modbus.proofs.StepLaws.{pass, fail, follow, halt, pick_yes, pick_no, picked}
 use Rattle.modbus.proofs.StorageLaws.{length_part}
-use Rattle.modbus.proofs.WeighLaws.{weigh_alike, by_alike}
-use Rattle.modbus.proofs.RequestLaws.{fn_asked}
-use Rattle.requests.specs.Judged.{weighed, kind_by}
-use Rattle.requests.specs.declared.Cells.{Cells}
-use Rattle.requests.specs.declared.ReadCells.{ReadCells}
-use Rattle.requests.specs.declared.Mask.{Mask}
-use Rattle.requests.specs.declared.Exchange.{Exchange}
-use Rattle.requests.specs.declared.Write.{Write}
-use Rattle.requests.specs.declared.Write.TheVariants.{Bits, Words}
-use Rattle.requests.specs.declared.Verdict.{Verdict}
-use Rattle.requests.specs.declared.Verdict.TheVariants.{Written}
-use Rattle.requests.proofs.FineLaws.{Stores, Fine, FineRead, FineWrite, FineMask, FineBoth}
 use Rattle.client.specs.declared.Reading.{Reading}
-use Rattle.client.specs.Asking.{Declined, bad_request, not_my_reply, silent, declined_by, or_silent, every_cell, no_broadcast, said_by, sent_as, Reply, shows, excepted, shown_count, kind_shown, Excepts, Brings, Answers, held_in, answered, replied, understood, read_into}
+use Rattle.client.specs.Asking.{Declined, bad_request, not_my_reply, silent, or_silent, sent_as, Reply, shows, excepted, shown_count, kind_shown, Excepts, Brings, Answers, held_in, answered, replied, understood, read_into}
 use Rattle.client.specs.Hearing.{read_of, echoed, Showing, Asks, heard_from, replied_to}
 use Rattle.client.proofs.BuildLaws.{or_go, or_stop}
 
@@ -47,59 +42,54 @@ tag_two zero a b h = absurd (omega arith)
 tag_two (suc zero) a b h = absurd (omega arith)
 tag_two (suc (suc n)) a b h = refl
 
+-- the first two bytes tell the transaction
+pub tags_same : (n a b c d : ℕ) → 2 ≤ n → tag_of (proto_of n) a b ≡ tag_of (proto_of n) c d → (a ≡ c) × (b ≡ d)
+tags_same n a b c d h e =
+    let z : a ∷ b ∷ [] ≡ c ∷ d ∷ [] = sym (tag_two n a b h) ∙ e ∙ tag_two n c d h in
+    (head-eq_of_cons-eq z, head-eq_of_cons-eq (tail-eq_of_cons-eq z))
+
+pub tag_test : (n a b c d x y : ℕ) → 2 ≤ n → b < 256 → d < 256 → x ≡ a * 256 + b → y ≡ c * 256 + d
+    → not (eqb x y) ≡ choose (same? (tag_of (proto_of n) c d) (tag_of (proto_of n) a b)) false true
+tag_test n a b c d x y h k l e f =
+    ⊎_elim
+    (λ p.
+    let z : c ≡ a = omega (arith, p.1) in
+    let w : d ≡ b = omega (arith, p.1) in
+    ap not p.0 ∙ sym (pick_yes _ _ _ (ap₂ (λ (i j : ℕ). tag_of (proto_of n) i j) z w)))
+    (λ p. ap not p.0 ∙ sym (pick_no _ _ _ (λ q. let (z, w) = tags_same n c d a b h q in p.1 (omega arith))))
+    (eqb_tells x y)
+
 -- ---- the echo
 
-module _ (n : ℕ) (sent b : List ℕ) where
-  pub echo_same : n ≤ length sent → length b ≡ n → ((k : ℕ) → k < n → get_or b k 0 ≡ get_or sent k 0) → b ≡ take n sent
-  echo_same h e same =
-      ext_get_or 0 b (take n sent) (e ∙ sym (length-take-le n sent h)) (λ i k. same i (omega arith) ∙ sym (get_or-take n sent i 0 (omega arith)))
-
-  pub echo_length : n ≤ length sent → b ≡ take n sent → length b ≡ n
-  echo_length h e = ap length e ∙ length-take-le n sent h
-
-  pub echo_at : (i : ℕ) → b ≡ take n sent → i < n → get_or b i 0 ≡ get_or sent i 0
-  echo_at i e h = ap (λ (l : List ℕ). get_or l i 0) e ∙ get_or-take n sent i 0 h
-
--- the function's number tells how long it is
-pub echo_mask : (a : Ask) → fn_of a ≡ mask → 8 ≡ echoed a
-echo_mask (read t s n) e = let z : ◌≡◌ {A = ℕ} 0 1 = cc in absurd (omega arith)
-echo_mask (write k a v) e = let z : ◌≡◌ {A = ℕ} 0 1 = cc in absurd (omega arith)
-echo_mask (writes k s vs) e = let z : ◌≡◌ {A = ℕ} 0 1 = cc in absurd (omega arith)
-echo_mask (masks a x y) e = refl
-echo_mask (swaps r n s vs) e = let z : ◌≡◌ {A = ℕ} 0 1 = cc in absurd (omega arith)
-
-pub echo_other : (a : Ask) → ¬ (code (fn_of a) ≡ 22) → 6 ≡ echoed a
-echo_other (read t s n) h = refl
-echo_other (write k a v) h = refl
-echo_other (writes k s vs) h = refl
-echo_other (masks a x y) h = absurd (h refl)
-echo_other (swaps r n s vs) h = refl
+-- what `!=` says of two slices
+pub differ : (xs ys : List ℕ) (r : Bool) → r ≡ not (pointwise eqb xs ys) → (r ≡ true → ¬ (xs ≡ ys)) × (r ≡ false → xs ≡ ys)
+differ xs ys r e = by (pointwise eqb xs ys) (bytes_eq-Decides xs ys) e
+  where
+    by : (b : Bool) → Decides b (xs ≡ ys) → r ≡ not b → (r ≡ true → ¬ (xs ≡ ys)) × (r ≡ false → xs ≡ ys)
+    by true d e = ((λ t q. false≢true (sym e ∙ t)), (λ f. d.0 refl))
+    by false d e = ((λ t q. false≢true (d.1 q)), (λ f. absurd (false≢true (sym f ∙ e))))
 
 -- ---- numbers out
 
-module _ (out : List ℕ) where
-  pub told_stop : (s : Step Declined Reply) (r : Reading) (x : Declined) (n : ℕ) → s ≡ stop x → r ≡ read_of 0 n 0 → n ≡ declined_by x
-      → ◌≡◌ {A = Reading × List ℕ} (r, out) (read_into out s)
-  told_stop s r x n e q z = ap (λ (y : Reading). (y, out)) (q ∙ ap (λ (i : ℕ). read_of 0 i 0) z) ∙ sym (ap (read_into out) e)
+pub shown_into : (out : List ℕ) (s : Step Declined Reply) (vs after : List ℕ) (n : ℕ) → s ≡ go (shows vs) → n ≡ length vs → after ≡ sets out 0 vs
+    → ◌≡◌ {A = Reading × List ℕ} (read_of n 0 0, after) (read_into out s)
+shown_into out s vs after n e z w = ap₂ (λ (i : ℕ) (l : List ℕ). (read_of i 0 0, l)) z w ∙ sym (ap (read_into out) e)
 
-  pub told_code : (s : Step Declined Reply) (r : Reading) (c : ℕ) → s ≡ go (excepted c) → r ≡ read_of 0 2 c
-      → ◌≡◌ {A = Reading × List ℕ} (r, out) (read_into out s)
-  told_code s r c e q = ap (λ (y : Reading). (y, out)) q ∙ sym (ap (read_into out) e)
+-- ---- an exception's code
 
-  pub told_shown : (s : Step Declined Reply) (r : Reading) (vs after : List ℕ) (n : ℕ) → s ≡ go (shows vs) → r ≡ read_of n 0 0 → n ≡ length vs
-      → after ≡ sets out 0 vs → ◌≡◌ {A = Reading × List ℕ} (r, after) (read_into out s)
-  told_shown s r vs after n e q z w =
-      ap₂ (λ (y : Reading) (l : List ℕ). (y, l)) (q ∙ ap (λ (i : ℕ). read_of i 0 0) z) w ∙ sym (ap (read_into out) e)
+module _ {P : Type 0} (d : Dec P) (y : ℕ) where
+  pub some_held : (x : ℕ) → Some x ≡ choose d (Some y) None → P × (x ≡ y)
+  some_held x e =
+      picked d _ _ (sym e) (λ p q. (p, let z : y ≡ x = cc in sym z)) (λ p q. let z : ◌≡◌ {A = ℕ} 0 1 = cc in absurd (omega arith))
+
+  pub none_held : None ≡ choose d (Some y) None → ¬ P
+  none_held e = picked d _ _ (sym e) (λ p q. let z : ◌≡◌ {A = ℕ} 0 1 = cc in absurd (omega arith)) (λ p q. p)
 
 -- ---- an answer that brings cells
 
 pub read_2000 : (k : Kind) (n : ℕ) → n ≤ most_read k → n ≤ 2000
 read_2000 bit n h = h
 read_2000 word n h = omega arith
-
-pub read_250 : (k : Kind) (n : ℕ) → n ≤ most_read k → octets k n ≤ 250
-read_250 bit n h = omega arith
-read_250 word n h = omega arith
 
 module _ (sent b : List ℕ) where
   answers_brings : (a : Ask) → IsRead (fn_of a) → Answers a sent b → Brings (code (fn_of a)) (octets (kind_shown a) (shown_count a)) b
@@ -137,15 +127,26 @@ module _ (sent b : List ℕ) where
         (brings_held a w.reads ∙ ap₂ (λ (j : Kind) (i : ℕ). values j i (drop 3 b)) e (sym w.counted))
 
 -- the function's number tells the kind
-pub kind_lt : (a : Ask) (function count : ℕ) → Showing a function count → kind_shown a ≡ kind_by (ltb function 3)
-kind_lt (read coils s n) function count w = rw w.numbered refl
-kind_lt (read discretes s n) function count w = rw w.numbered refl
-kind_lt (read holdings s n) function count w = rw w.numbered refl
-kind_lt (read inputs s n) function count w = rw w.numbered refl
-kind_lt (write k a v) function count w = absurd w.reads
-kind_lt (writes k s vs) function count w = absurd w.reads
-kind_lt (masks a x y) function count w = absurd w.reads
-kind_lt (swaps r n s vs) function count w = rw w.numbered refl
+module _ (function count : ℕ) where
+  pub kind_bits : (a : Ask) → Showing a function count → function < 3 → kind_shown a ≡ bit
+  kind_bits (read coils s n) w h = refl
+  kind_bits (read discretes s n) w h = refl
+  kind_bits (read holdings s n) w h = absurd (omega (arith, w.numbered))
+  kind_bits (read inputs s n) w h = absurd (omega (arith, w.numbered))
+  kind_bits (write k a v) w h = absurd w.reads
+  kind_bits (writes k s vs) w h = absurd w.reads
+  kind_bits (masks a x y) w h = absurd w.reads
+  kind_bits (swaps r n s vs) w h = absurd (omega (arith, w.numbered))
+
+  pub kind_words : (a : Ask) → Showing a function count → 3 ≤ function → kind_shown a ≡ word
+  kind_words (read coils s n) w h = absurd (omega (arith, w.numbered))
+  kind_words (read discretes s n) w h = absurd (omega (arith, w.numbered))
+  kind_words (read holdings s n) w h = refl
+  kind_words (read inputs s n) w h = refl
+  kind_words (write k a v) w h = absurd w.reads
+  kind_words (writes k s vs) w h = absurd w.reads
+  kind_words (masks a x y) w h = absurd w.reads
+  kind_words (swaps r n s vs) w h = refl
 
 pub values_length : (k : Kind) (n : ℕ) (d : List ℕ) → n ≡ length (values k n d)
 values_length bit n d = sym (length_part _ 0 n)
@@ -215,97 +216,6 @@ module _ (n : ℕ) (m : Message) (a : Ask) (r : List ℕ) (room : ℕ) where
           (λ u. pass _ _ _ (t, u) ∙ sym (pass _ _ _ u))
           (λ u. fail _ _ _ (λ q. u q.1) ∙ sym (fail _ _ _ u))
 
--- ---- the request that a body says
-
-module _ (n : ℕ) (m : Message) where
-  -- what is weighed of the body, with every fault as no request
-  says : {C : Type 0} → ((w : Verdict) → weighed (every_cell n) false m.body ≡ stop w → said_by n m ≡ stop bad_request → C)
-      → ((a : Ask) → weighed (every_cell n) false m.body ≡ go a → said_by n m ≡ go (m, a) → C) → C
-  says f g =
-      by_alike (λ (x : Declined) (w : Verdict). x ≡ bad_request) _ _
-      (weigh_alike _ _ _ _ _ (every_cell n) no_broadcast _ m.body (λ h. h) (λ h. h) (λ o. refl) (λ c. refl))
-      (λ x w p q r. f w q (halt _ _ (p ∙ ap stop r)))
-      (λ a p q. g a q (follow _ _ p))
-
-  pub said_goes : (a : Ask) → weighed (every_cell n) false m.body ≡ go a → said_by n m ≡ go (m, a)
-  said_goes a e =
-      says (λ w q r. let z : ◌≡◌ {A = ℕ} 0 1 = cc in absurd (omega arith))
-      (λ c q r. let z : c ≡ a = cc in r ∙ ap (λ (x : Ask). go (m, x)) z)
-
-  pub said_stops : (w : Verdict) → weighed (every_cell n) false m.body ≡ stop w → said_by n m ≡ stop bad_request
-  said_stops w e = says (λ v q r. r) (λ a q r. let z : ◌≡◌ {A = ℕ} 0 1 = cc in absurd (omega arith))
-
-  module _ (r : List ℕ) (room : ℕ) where
-    pub replied_said : (a : Ask) → weighed (every_cell n) false m.body ≡ go a → replied_to n m r room ≡ replied n m a r room
-    replied_said a e = follow _ _ (said_goes a e)
-
-    pub replied_unsaid : (w : Verdict) → weighed (every_cell n) false m.body ≡ stop w → replied_to n m r room ≡ stop bad_request
-    replied_unsaid w e = halt _ _ (said_stops w e)
-
--- ---- what a verdict tells
-
--- the body says a request, an answer to which shows so many values
-pub record Said (n : ℕ) (b : List ℕ) (count : ℕ) : Type 0 where
-  pub ask : Ask
-  pub asks : Asks ask count b
-  pub goes : weighed (every_cell n) false b ≡ go ask
-
--- a write of values shows none, and repeats six bytes
-Mute : Ask → Type 0
-Mute a = (0 ≡ shown_count a) × (IsRead (fn_of a) → ⊥) × (echoed a ≡ 6)
-
-stores_mute : (k : Kind) (s : ℕ) (vs : List ℕ) (a : Ask) → Stores k s vs a → Mute a
-unfolding Mute
-stores_mute k s vs a (inl (v, e, w)) = subst Mute (sym e) (refl, (λ i. i), refl)
-stores_mute k s vs a (inr e) = subst Mute (sym e) (refl, (λ i. i), refl)
-
-module _ (n : ℕ) (b : List ℕ) where
-  pub read_said : (q : ReadCells) → FineRead (every_cell n) false b q → Said n b q.count
-  read_said q h =
-      record {
-        ask = read h.tab q.address q.count;
-        asks = record { counted = refl; numbered = h.numbered; some = λ _. h.some; most = h.most; whole = omega (arith, h.whole); repeats = omega (arith, h.whole) };
-        goes = h.goes;
-      }
-
-  stores_said : (k : Kind) (c : Cells) → FineWrite k (every_cell n) false b c → Said n b 0
-  unfolding Mute
-  stores_said k c h =
-      let m = stores_mute k _ _ (asked h.fn b) h.stores in
-      record {
-        ask = asked h.fn b;
-        asks =
-            record {
-              counted = m.0;
-              numbered = h.numbered ∙ ap code (sym (fn_asked h.fn b));
-              some = λ i. absurd (m.1 i);
-              most = omega arith;
-              whole = h.whole;
-              repeats = omega (arith, m.2, h.whole);
-            };
-        goes = h.goes;
-      }
-
-  pub written_said : (w : Write) → Fine (every_cell n) false b (Written w) → Said n b 0
-  written_said (Bits c) h = stores_said bit c h
-  written_said (Words c) h = stores_said word c h
-
-  pub masked_said : (m : Mask) → FineMask (every_cell n) false b m → Said n b 0
-  masked_said m h =
-      record {
-        ask = asked mask b;
-        asks = record { counted = refl; numbered = h.numbered; some = λ i. absurd i; most = omega arith; whole = omega (arith, h.whole); repeats = omega (arith, h.whole) };
-        goes = h.goes;
-      }
-
-  pub both_said : (x : Exchange) → FineBoth (every_cell n) false b x → Said n b x.read_count
-  both_said x h =
-      record {
-        ask = swaps x.read_address x.read_count x.write_address (values word x.write_count (drop 11 b));
-        asks = record { counted = refl; numbered = h.numbered; some = λ _. h.some; most = h.most; whole = omega (arith, h.held); repeats = omega (arith, h.held) };
-        goes = h.goes;
-      }
-
 -- ---- the frame of a request
 
 module _ (n : ℕ) (f r : List ℕ) (room : ℕ) where
@@ -322,18 +232,6 @@ module _ (n : ℕ) (f r : List ℕ) (room : ℕ) where
     unfolding understood sent_as
     opened_to m e =
         pass _ _ _ h ∙ ap (λ (s : Step Declined (Message × Ask)). s >>= λ q. replied n q.0 q.1 r room) (follow _ _ (or_go _ e))
-
--- a part of what a frame was opened from
-pub part_same : (start n k : ℕ) (s s' : List ℕ) → start ≡ k → s ≡ s' → take ((start + n) - start) (drop start s) ≡ take n (drop k s')
-part_same start n k s s' e f = let z : (start + n) - start ≡ n = omega arith in rw (z, e, f)
-
-pub part_long : (source : List ℕ) (start n : ℕ) → 2 ≤ n → start + n ≤ length source → 2 ≤ length (take ((start + n) - start) (drop start source))
-part_long source start n h k = simp (length-take, length-drop) (omega arith)
-
-pub tags_same : (n a b c d : ℕ) → 2 ≤ n → tag_of (proto_of n) a b ≡ tag_of (proto_of n) c d → (a ≡ c) × (b ≡ d)
-tags_same n a b c d h e =
-    let z : a ∷ b ∷ [] ≡ c ∷ d ∷ [] = sym (tag_two n a b h) ∙ e ∙ tag_two n c d h in
-    (head-eq_of_cons-eq z, head-eq_of_cons-eq (tail-eq_of_cons-eq z))
 
 -- all behind the head
 pub behind_head : (b : List ℕ) → take (length b - 3) (drop 3 b) ≡ drop 3 b

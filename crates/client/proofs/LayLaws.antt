@@ -11,46 +11,56 @@ use native.Mathlib.Nat.{zero-add, zero-div}
 use native.Mathlib.Decide.{dec_lt}
 use lib.ListN.{length, get_or, set, take, drop, replicate, length-append, length-replicate, get_or-append, drop_of_length-le}
 use lib.Seq.{sets, sets-eq, drop-cons, get_or-take, take_at, length-take-le}
-use lib.Dec.{eqb}
+use lib.Dec.{eqb, ltb}
+use mir.Val.{bool_byte}
+use Rattle.std.specs.Bool.{MatchBool}
+use Rattle.std.specs.List.{HoldsAt, AllWithin}
+use Rattle.std.proofs.lemmas.Bool.{false≢true, lt-ltb, le-ltb}
 use Rattle.modbus.specs.Step.{choose, ◌≤?◌, ◌and?◌}
 use Rattle.modbus.specs.Bytes.{All, Bytes, word_at, twos, pack}
 use Rattle.modbus.specs.Table.{Kind, bit, word, target, Fits, part}
 use Rattle.modbus.specs.Request.{most_written, octets, shown}
-use Rattle.modbus.specs.Paper.{told, told_with, bit_paper, done_paper, digit_of}
+use Rattle.modbus.specs.Paper.{told, told_with, bit_paper, done_paper, digit_of, kind_in}
 use Rattle.modbus.specs.Storage.{coil_at, put_coil, register_at, put_register, Storage, packed, registers, storage, store, Sound, datum, values}
 use Rattle.modbus.specs.declared.ErrorKind.{ErrorKind}
+use Rattle.modbus.specs.declared.CellKind.{CellKind}
+use Rattle.modbus.specs.declared.CellKind.TheVariants.{Bits, Words}
 use Rattle.modbus.specs.declared.BitAnswer.{BitAnswer}
 use Rattle.modbus.specs.declared.BitAnswer.TheVariants as bit_answer
 use Rattle.modbus.specs.declared.DoneAnswer.{DoneAnswer}
 use Rattle.modbus.proofs.StepLaws.{pick_yes, pick_no}
 use Rattle.modbus.proofs.PaperLaws.{number_some}
-use Rattle.modbus.proofs.BytesLaws.{all_append, all_take}
+use Rattle.modbus.proofs.BytesLaws.{all_by, all_append, all_take}
 use Rattle.modbus.proofs.StorageLaws.{get_d_part, packed_law, store_length, store_in, store_out, store_bytes, coils_determine, size_sound}
 use Rattle.modbus.proofs.CargoLaws.{values_back, bytes_cargo}
 use Rattle.modbus.proofs.AnswerLaws.{length_shown}
-use Rattle.requests.specs.Judged.{kind_by}
 use Rattle.tables.specs.Calls.{got, changed}
 use Rattle.tables.proofs.CallsLaws.{got_inside, changed_inside}
 use Rattle.client.specs.Asking.{all_fit?}
 
--- ---- coils have no value above 1
+-- ---- tests
 
-abbrev pub above : List ℕ → Bool
-above l = choose (all_fit? bit l) false true
+-- a test that is true exactly where P holds
+pub chosen : {P : Type 0} (r : Bool) (d : Dec P) → (r ≡ true → P) → (P → r ≡ true) → r ≡ choose d true false
+chosen true d f g = sym (pick_yes d _ _ (f refl))
+chosen false d f g = sym (pick_no d _ _ (λ p. false≢true (g p)))
 
-module _ (s : List ℕ) (i : ℕ) (h : i < length s) where
-  pub above_here : 1 < get_or s i 0 → above (drop i s) ≡ true
-  above_here k = rw (drop-cons s i 0 h) (pick_no (all_fit? bit (get_or s i 0 ∷ drop (suc i) s)) _ _ (λ p. omega (arith, p.0)))
+-- a bit as the number that a cast makes of it
+pub bit_byte : (b : Bool) → digit_of b ≡ bool_byte b
+bit_byte true = refl
+bit_byte false = refl
 
-  pub above_next : ¬ (1 < get_or s i 0) → above (drop i s) ≡ above (drop (suc i) s)
-  above_next k =
-      rw (drop-cons s i 0 h)
-      (by_cases (all_fit? bit (drop (suc i) s))
-      (λ p. pick_yes (all_fit? bit (get_or s i 0 ∷ drop (suc i) s)) _ _ (omega (arith, k), p) ∙ sym (pick_yes _ _ _ p))
-      (λ n. pick_no (all_fit? bit (get_or s i 0 ∷ drop (suc i) s)) _ _ (λ p. n p.1) ∙ sym (pick_no _ _ _ n)))
+pub all_at : (k : Kind) (vs : List ℕ) (i : ℕ) → All (Fits k) vs → i < length vs → Fits k (get_or vs i 0)
+all_at k [] i p h = absurd (omega arith)
+all_at k (v ∷ vs) zero p h = p.0
+all_at k (v ∷ vs) (suc i) p h = all_at k vs i p.1 (omega arith)
 
-pub above_none : above [] ≡ false
-above_none = pick_yes (all_fit? bit []) _ _ tt
+-- a value above 1 is among them, or none is
+pub above_is : (r : Bool) (vs : List ℕ)
+    → MatchBool r ((k : ℕ) × (k < length vs) × HoldsAt (λ x. 1 < x) vs k) (AllWithin (λ x. x ≤ 1) vs 0 (length vs))
+    → r ≡ choose (all_fit? bit vs) false true
+above_is true vs (k, h, p) = sym (pick_no (all_fit? bit vs) _ _ (λ q. omega (arith, p 0, all_at bit vs k q h)))
+above_is false vs h = sym (pick_yes (all_fit? bit vs) _ _ (all_by (Fits bit) vs (λ i k. h i 0 (omega arith) k)))
 
 -- ---- values stored one by one
 
@@ -76,11 +86,6 @@ pub bit_value : (v : ℕ) → v ≤ 1 → digit_of (eqb v 1) ≡ v
 bit_value zero h = refl
 bit_value (suc zero) h = refl
 bit_value (suc (suc v)) h = absurd (omega arith)
-
-pub all_at : (k : Kind) (vs : List ℕ) (i : ℕ) → All (Fits k) vs → i < length vs → Fits k (get_or vs i 0)
-all_at k [] i p h = absurd (omega arith)
-all_at k (v ∷ vs) zero p h = p.0
-all_at k (v ∷ vs) (suc i) p h = all_at k vs i p.1 (omega arith)
 
 -- ---- what is stored in zeros
 
@@ -194,6 +199,17 @@ module _ (f : ℕ → ℕ) where
   unfolding part
   part_done l n i z inv h = let k : n - i ≡ 0 = omega arith in rw k at inv
 
+-- all of a front are the values
+pub front_whole : (cells items vs : List ℕ) (n : ℕ) → length vs ≡ n → n ≤ length cells → items ≡ sets (take n cells) 0 vs
+    → items ++ drop n cells ≡ sets cells 0 vs
+front_whole cells items vs n e h q =
+    let k = length-take-le n cells h in
+    let a = sets-eq vs (take n cells) 0 (omega arith) in
+    let b = sets-eq vs cells 0 (omega arith) in
+    let y : n ≡ 0 + length vs = omega arith in
+    let z : drop (0 + length vs) (take n cells) ≡ [] = drop_of_length-le (take n cells) (omega arith) in
+    ap (λ (l : List ℕ). l ++ drop n cells) (q ∙ a ∙ ap (λ (l : List ℕ). vs ++ l) z ∙ append-nil vs) ∙ ap (λ (i : ℕ). vs ++ drop i cells) y ∙ sym b
+
 -- one coil of data bytes, which the call answers
 module _ (d : List ℕ) (n i : ℕ) (sound : Sound packed d n) (inside : i < n) (r : BitAnswer) (e : bit_paper r ≡ told (got packed d n i)) where
   got_coil : bit_paper r ≡ (0, coil_at d i)
@@ -205,82 +221,56 @@ module _ (d : List ℕ) (n i : ℕ) (sound : Sound packed d n) (inside : i < n) 
   pub bit_never : (k : ErrorKind) → r ≡ bit_answer.Refused k → ⊥
   bit_never k q = number_some k (ap (λ (p : ℕ × ℕ). p.0) (sym (ap bit_paper q) ∙ got_coil))
 
--- ---- by the kind, which a bool tells
+-- ---- by the kind
 
 module _ (l after : List ℕ) (n i v : ℕ) (r : DoneAnswer) (few : n ≤ 1968) (inside : i < n) where
-  pub put_bit : (b : Bool) → b ≡ true → Fits (kind_by b) v → octets (kind_by b) n ≤ length l
+  pub put_bit : (b : CellKind) → b ≡ Bits → Fits (kind_in b) v → octets (kind_in b) n ≤ length l
       → ◌≡◌ {A = (ℕ × ℕ) × List ℕ} (done_paper r, after) (told_with l (changed packed l n i (digit_of (eqb v 1))))
-      → after ≡ (storage (target (kind_by b))).put l i v
-  put_bit true q fits long e = cell_put packed l after n i (digit_of (eqb v 1)) r (omega arith, long) inside e ∙ ap (put_coil l i) (bit_value v fits)
-  put_bit false q fits long e = let z : ◌≡◌ {A = ℕ} 0 1 = cc in absurd (omega arith)
+      → after ≡ (storage (target (kind_in b))).put l i v
+  put_bit Bits q fits long e = cell_put packed l after n i (digit_of (eqb v 1)) r (omega arith, long) inside e ∙ ap (put_coil l i) (bit_value v fits)
+  put_bit Words q fits long e = let z : ◌≡◌ {A = ℕ} 0 1 = cc in absurd (omega arith)
 
-  pub put_word : (b : Bool) → b ≡ false → octets (kind_by b) n ≤ length l
-      → ◌≡◌ {A = (ℕ × ℕ) × List ℕ} (done_paper r, after) (told_with l (changed registers l n i v)) → after ≡ (storage (target (kind_by b))).put l i v
-  put_word true q long e = let z : ◌≡◌ {A = ℕ} 0 1 = cc in absurd (omega arith)
-  put_word false q long e = cell_put registers l after n i v r (omega arith, long) inside e
+  pub put_word : (b : CellKind) → b ≡ Words → octets (kind_in b) n ≤ length l
+      → ◌≡◌ {A = (ℕ × ℕ) × List ℕ} (done_paper r, after) (told_with l (changed registers l n i v)) → after ≡ (storage (target (kind_in b))).put l i v
+  put_word Bits q long e = let z : ◌≡◌ {A = ℕ} 0 1 = cc in absurd (omega arith)
+  put_word Words q long e = cell_put registers l after n i v r (omega arith, long) inside e
 
-pub octets_bit : (b : Bool) (n : ℕ) → b ≡ true → (n + 7) / 8 ≡ octets (kind_by b) n
-octets_bit true n q = refl
-octets_bit false n q = let z : ◌≡◌ {A = ℕ} 0 1 = cc in absurd (omega arith)
-
-pub octets_word : (b : Bool) (n : ℕ) → b ≡ false → 2 * n ≡ octets (kind_by b) n
-octets_word true n q = let z : ◌≡◌ {A = ℕ} 0 1 = cc in absurd (omega arith)
-octets_word false n q = refl
-
-pub octets_lt : (b : Bool) (n : ℕ) → octets (kind_by b) n ≤ 2 * n + 7
-octets_lt true n = omega arith
-octets_lt false n = omega arith
-
-pub cell_bit : (b : Bool) (d : List ℕ) (i : ℕ) → b ≡ true → coil_at d i ≡ datum (kind_by b) d i
-cell_bit true d i q = refl
-cell_bit false d i q = let z : ◌≡◌ {A = ℕ} 0 1 = cc in absurd (omega arith)
-
-pub cell_word : (b : Bool) (d : List ℕ) (i : ℕ) → b ≡ false → word_at d (2 * i) ≡ datum (kind_by b) d i
+pub cell_word : (b : CellKind) (d : List ℕ) (i : ℕ) → b ≡ Words → word_at d (2 * i) ≡ datum (kind_in b) d i
 unfolding register_at
-cell_word true d i q = let z : ◌≡◌ {A = ℕ} 0 1 = cc in absurd (omega arith)
-cell_word false d i q = refl
-
-pub few_bits : (b : Bool) (n m : ℕ) → b ≡ true → octets (kind_by b) n ≤ m → n ≤ 8 * m
-few_bits true n m q h = omega arith
-few_bits false n m q h = let z : ◌≡◌ {A = ℕ} 0 1 = cc in absurd (omega arith)
+cell_word Bits d i q = let z : ◌≡◌ {A = ℕ} 0 1 = cc in absurd (omega arith)
+cell_word Words d i q = refl
 
 -- values for one write: not too many, and each one fits its cell
-abbrev pub Fitting : Bool → List ℕ → Type 0
-Fitting b vs = (length vs ≤ most_written (kind_by b)) × All (Fits (kind_by b)) vs
+abbrev pub Fitting : CellKind → List ℕ → Type 0
+Fitting b vs = (length vs ≤ most_written (kind_in b)) × All (Fits (kind_in b)) vs
 
-abbrev pub fitting? : (b : Bool) (vs : List ℕ) → Dec (Fitting b vs)
-fitting? b vs = (length vs ≤? most_written (kind_by b)) and? all_fit? (kind_by b) vs
+abbrev pub fitting? : (b : CellKind) (vs : List ℕ) → Dec (Fitting b vs)
+fitting? b vs = (length vs ≤? most_written (kind_in b)) and? all_fit? (kind_in b) vs
 
-pub unfit_bits : (b : Bool) (vs : List ℕ) → b ≡ true → 1968 < length vs → true ≡ choose (fitting? b vs) false true
-unfit_bits true vs q h = sym (pick_no _ _ _ (λ p. omega (arith, p.0)))
-unfit_bits false vs q h = let z : ◌≡◌ {A = ℕ} 0 1 = cc in absurd (omega arith)
+pub unfit_bits : (k : CellKind) (vs : List ℕ) → k ≡ Bits → 1968 < length vs → true ≡ choose (fitting? k vs) false true
+unfit_bits Bits vs q h = sym (pick_no _ _ _ (λ p. omega (arith, p.0)))
+unfit_bits Words vs q h = let z : ◌≡◌ {A = ℕ} 0 1 = cc in absurd (omega arith)
 
-pub unfit_some : (b : Bool) (vs : List ℕ) (r : Bool) → b ≡ true → ¬ (1968 < length vs) → r ≡ above vs → r ≡ choose (fitting? b vs) false true
-unfit_some true vs r q h e =
+pub unfit_some : (k : CellKind) (vs : List ℕ) (r : Bool) → k ≡ Bits → length vs ≤ 1968 → r ≡ choose (all_fit? bit vs) false true
+    → r ≡ choose (fitting? k vs) false true
+unfit_some Bits vs r q h e =
     e ∙ by_cases (all_fit? bit vs)
-    (λ p. pick_yes _ _ _ p ∙ sym (pick_yes (fitting? true vs) _ _ (omega (arith, h), p)))
-    (λ p. pick_no _ _ _ p ∙ sym (pick_no (fitting? true vs) _ _ (λ k. p k.1)))
-unfit_some false vs r q h e = let z : ◌≡◌ {A = ℕ} 0 1 = cc in absurd (omega arith)
+    (λ p. pick_yes _ _ _ p ∙ sym (pick_yes (fitting? Bits vs) _ _ (h, p)))
+    (λ p. pick_no _ _ _ p ∙ sym (pick_no (fitting? Bits vs) _ _ (λ k. p k.1)))
+unfit_some Words vs r q h e = let z : ◌≡◌ {A = ℕ} 0 1 = cc in absurd (omega arith)
 
-module _ (b : Bool) (vs : List ℕ) (q : b ≡ false) where
-  pub unfit_words : 123 < length vs → true ≡ choose (fitting? b vs) false true
-  unfit_words h = by b q
-    where
-      by : (b : Bool) → b ≡ false → true ≡ choose (fitting? b vs) false true
-      by true q = let z : ◌≡◌ {A = ℕ} 0 1 = cc in absurd (omega arith)
-      by false q = sym (pick_no (fitting? false vs) _ _ (λ p. omega (arith, p.0)))
+pub unfit_words : (k : CellKind) (vs : List ℕ) → k ≡ Words → All (Fits word) vs → ltb 123 (length vs) ≡ choose (fitting? k vs) false true
+unfit_words Bits vs q fits = let z : ◌≡◌ {A = ℕ} 0 1 = cc in absurd (omega arith)
+unfit_words Words vs q fits =
+    by_cases (fitting? Words vs)
+    (λ p. le-ltb 123 (length vs) p.0 ∙ sym (pick_yes (fitting? Words vs) _ _ p))
+    (λ n. lt-ltb 123 (length vs) (by_cases (length vs ≤? 123) (λ h. absurd (n (h, fits))) (λ h. omega (arith, h)))
+    ∙ sym (pick_no (fitting? Words vs) _ _ n))
 
-  pub fit_words : ¬ (123 < length vs) → All (Fits word) vs → false ≡ choose (fitting? b vs) false true
-  fit_words h fits = by b q
-    where
-      by : (b : Bool) → b ≡ false → false ≡ choose (fitting? b vs) false true
-      by true q = let z : ◌≡◌ {A = ℕ} 0 1 = cc in absurd (omega arith)
-      by false q = sym (pick_yes (fitting? false vs) _ _ (omega (arith, h), fits))
+pub most_1968 : (b : CellKind) → most_written (kind_in b) ≤ 1968
+most_1968 Bits = omega arith
+most_1968 Words = omega arith
 
-pub most_1968 : (b : Bool) → most_written (kind_by b) ≤ 1968
-most_1968 true = omega arith
-most_1968 false = omega arith
-
-pub octets_246 : (b : Bool) (n : ℕ) → n ≤ most_written (kind_by b) → octets (kind_by b) n ≤ 246
-octets_246 true n h = omega arith
-octets_246 false n h = omega arith
+pub octets_246 : (b : CellKind) (n : ℕ) → n ≤ most_written (kind_in b) → octets (kind_in b) n ≤ 246
+octets_246 Bits n h = omega arith
+octets_246 Words n h = omega arith

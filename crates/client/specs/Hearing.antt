@@ -1,6 +1,6 @@
 -- What the stages of building and reading hand on: for the contracts of private functions.
 -- Assumes nothing.
-use Rattle.std.specs.Prelude.{Bool, true, false, ◌≡◌, List, ◌∷◌, ◌++◌, ℕ, ◌*◌, ◌≤◌, length, get_or}
+use Rattle.std.specs.Prelude.{Bool, true, false, ◌≡◌, List, ◌∷◌, ◌++◌, ℕ, ◌*◌, ◌≤◌, length, get_or, Result, Ok, Err}
 use Rattle.modbus.specs.Step.{Step, stop, go, ◌>>=◌, ◌>>◌, need, ◌≤?◌, ◌≟◌}
 use Rattle.modbus.specs.Bytes.{two}
 use Rattle.modbus.specs.Request.{both, code, Ask, read, write, writes, masks, swaps, fn_of, most_read}
@@ -10,14 +10,36 @@ use Rattle.modbus.specs.Decode.{Message, no_room_quiet, IsRead}
 use Rattle.modbus.specs.declared.Answer.{Answer}
 use Rattle.requests.specs.Judged.{weighed}
 use Rattle.client.specs.declared.ModbusRequest.{ModbusRequest}
+use Rattle.transports.specs.Opened.{fault_of}
 use Rattle.client.specs.declared.Reading.{Reading}
-use Rattle.client.specs.Asking.{Declined, bad_request, not_my_reply, silent, or_bad_request, every_cell, tag_to, Reply, said_by, shown_count, kind_shown, heard, replied}
+use Rattle.client.specs.declared.Refusal.{Refusal}
+use Rattle.client.specs.declared.Refusal.TheVariants.{BadRequest, NotMyReply, NoRoom, Unopened}
+use Rattle.client.specs.declared.Heard.{Heard}
+use Rattle.client.specs.declared.Heard.TheVariants.{Values, Exception}
+use Rattle.client.specs.Asking.{Declined, bad_request, not_my_reply, silent, declined_by, or_bad_request, every_cell, tag_to, Reply, said_by, shown_count, kind_shown, heard, replied}
+
+-- why the code says that nothing is built or read
+abbrev pub refusal_of : Refusal → Declined
+refusal_of BadRequest = bad_request
+refusal_of NotMyReply = not_my_reply
+refusal_of NoRoom = silent no_room_quiet
+refusal_of (Unopened fault) = silent (fault_of fault)
 
 abbrev pub declining : ℕ → Answer
 declining k = record { value = 0; kind = k }
 
 abbrev pub read_of : ℕ → ℕ → ℕ → Reading
 read_of n o c = record { count = n; outcome = o; code = c }
+
+-- what the code hands to C
+abbrev pub answer_of : Result ℕ Refusal → Answer
+answer_of (Ok n) = record { value = n; kind = 0 }
+answer_of (Err r) = declining (declined_by (refusal_of r))
+
+abbrev pub reading_of : Result Heard Refusal → Reading
+reading_of (Ok (Values n)) = read_of n 0 0
+reading_of (Ok (Exception c)) = read_of 0 2 c
+reading_of (Err r) = read_of 0 (declined_by (refusal_of r)) 0
 
 -- ---- building
 
@@ -76,6 +98,16 @@ pub record Asks (a : Ask) (count : ℕ) (sent : List ℕ) : Type 0 where
   pub most : count ≤ most_read (kind_shown a)
   pub whole : 6 ≤ length sent
   pub repeats : echoed a ≤ length sent
+
+-- the body says a request, an answer to which shows so many values
+pub record Said (n : ℕ) (b : List ℕ) (count : ℕ) : Type 0 where
+  pub ask : Ask
+  pub asks : Asks ask count b
+  pub goes : weighed (every_cell n) false b ≡ go ask
+
+-- or none
+abbrev pub Unsaid : ℕ → List ℕ → Type 0
+Unsaid n b = failed (weighed (every_cell n) false b) ≡ true
 
 -- the body of a reply whose frame is right, and of the same transaction
 abbrev pub heard_from : Ask → List ℕ → List ℕ → Step Declined Reply

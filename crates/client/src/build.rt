@@ -1,17 +1,18 @@
 // Building: a body is laid, asked whether it says a request, and put into its frame.
-ghost use Rattle.std.specs.Prelude.{true, false, ◌≡◌, ◌++◌, ℕ, ◌+◌, ◌*◌, ◌≤◌, ◌<◌, length, take, drop};
+ghost use Rattle.std.specs.Prelude.{true, false, ◌≡◌, ◌++◌, ℕ, ◌+◌, ◌*◌, ◌≤◌, ◌<◌, ◌∷◌, length, take, drop};
 ghost use Rattle.modbus.specs.Step.{choose, ◌≤?◌, ◌and?◌};
+ghost use Rattle.modbus.specs.Bytes.{two};
 ghost use Rattle.modbus.specs.Request.{code, one, many, most_written};
-ghost use Rattle.modbus.specs.Paper.{proto_of};
+ghost use Rattle.modbus.specs.Paper.{proto_of, kind_in};
 ghost use Rattle.modbus.specs.Frame.{start_of};
-ghost use Rattle.requests.specs.Judged.{weighed, kind_by};
-ghost use Rattle.client.specs.Asking.{every_cell, all_fit?, write_by, generated, laid_into};
-ghost use Rattle.client.specs.Hearing.{failed, roomed, framed, body_sent, many_body, both_body};
+ghost use Rattle.requests.specs.Judged.{weighed};
+ghost use Rattle.client.specs.Asking.{every_cell, all_fit?, write_by, setting, generated, laid_into};
+ghost use Rattle.client.specs.Hearing.{failed, roomed, framed, body_sent, many_body, both_body, answer_of};
 
 use crate::lay::{above_one, lay, octets_of};
-use crate::{ModbusRequest, declined};
-use modbus::Answer;
-use requests::{Verdict, judge};
+use crate::{ModbusRequest, Refusal};
+use modbus::CellKind;
+use requests::judge;
 use response::extend;
 use transports::{seal, start_of};
 
@@ -19,32 +20,26 @@ use transports::{seal, start_of};
 fn unasked(body: &[u8]) -> bool
     ensures { (n : ℕ) → result ≡ failed (weighed (every_cell n) false body.now) }
 {
-    match judge(body, false, 65536, 65536, 65536, 65536) {
-        Verdict::Read(_) => false,
-        Verdict::Written(_) => false,
-        Verdict::Masked(_) => false,
-        Verdict::Exchanged(_) => false,
-        Verdict::Refused(_) => true,
-        Verdict::Quiet(_, _) => true,
-    }
+    judge(body, false, 65536, 65536, 65536, 65536).is_err()
 }
 
 // The body that stands in the frame's buffer from `start` on, in its frame, goes to the request.
-fn close(to: ModbusRequest, n: usize, frame: &mut [u8], request: &mut [u8]) -> Answer
+fn close(
+    to: ModbusRequest,
+    n: usize,
+    frame: &mut [u8],
+    request: &mut [u8],
+) -> Result<usize, Refusal>
     requires { (n ≤ 253) × (511 ≤ length frame.old) }
-    ensures { (result, request.new) ≡ laid_into request.old (roomed (framed to (take n (drop (start_of (proto_of to.proto)) frame.old))) (length request.old)) }
+    ensures { (answer_of result, request.new) ≡ laid_into request.old (roomed (framed to (take n (drop (start_of (proto_of to.proto)) frame.old))) (length request.old)) }
 {
-    let high = (to.tr_id / 256) as u8;
-    let low = (to.tr_id % 256) as u8;
-    let len = seal(to.proto, high, low, n as u8, frame);
+    let [high, low] = to.tr_id.to_be_bytes();
+    let len = seal(to.proto, high, low, n as u8, frame).unwrap();
     if request.len() < len {
-        return declined(9);
+        return Err(Refusal::NoRoom);
     }
     extend(request, 0, &frame[..len]);
-    Answer {
-        value: len,
-        kind: 0,
-    }
+    Ok(len)
 }
 
 // The body, which is the head and then the data, goes to the frame's buffer from `start` on. Answers its length.
@@ -58,107 +53,100 @@ fn lay_parts(head: &[u8], data: &[u8], start: usize, frame: &mut [u8]) -> usize
     head.len() + data.len()
 }
 
-pub(crate) fn send(to: ModbusRequest, head: &[u8], data: &[u8], request: &mut [u8]) -> Answer
+pub(crate) fn send(
+    to: ModbusRequest,
+    head: &[u8],
+    data: &[u8],
+    request: &mut [u8],
+) -> Result<usize, Refusal>
     requires { length head.now + length «data».now ≤ 253 }
-    ensures { (result, request.new) ≡ laid_into request.old (body_sent to (head.now ++ «data».now) (length request.old)) }
+    ensures { (answer_of result, request.new) ≡ laid_into request.old (body_sent to (head.now ++ «data».now) (length request.old)) }
 {
     if 2 < to.proto {
-        return declined(11);
+        return Err(Refusal::BadRequest);
     }
     let mut buffer = [0u8; 511];
     let frame: &mut [u8] = &mut buffer;
     let start = start_of(to.proto);
     let n = lay_parts(head, data, start, frame);
-    let end = start + n;
-    if unasked(&frame[start..end]) {
-        return declined(11);
+    if unasked(&frame[start..start + n]) {
+        return Err(Refusal::BadRequest);
     }
     close(to, n, frame, request)
 }
 
+// A body of a function and two numbers.
+pub(crate) fn pair(unit: u8, func: u8, first: u16, second: u16) -> [u8; 6]
+    ensures { result ≡ unit ∷ func ∷ two first ++ two second }
+{
+    let [a, b] = first.to_be_bytes();
+    let [c, d] = second.to_be_bytes();
+    [unit, func, a, b, c, d]
+}
+
 // Functions 5 and 6: one value, a coil's in its high byte.
-pub(crate) fn set_one(
+fn set_one(
     to: ModbusRequest,
-    bits: bool,
+    kind: CellKind,
     reg: u16,
     values: &[u16],
     request: &mut [u8],
-) -> Answer
-    ensures { (result, request.new) ≡ laid_into request.old (generated to (write_by reg values.now (one (kind_by bits))) (length request.old)) }
+) -> Result<usize, Refusal>
+    ensures { (answer_of result, request.new) ≡ laid_into request.old (generated to (write_by reg values.now (one (kind_in kind))) (length request.old)) }
 {
     if values.len() != 1 {
-        return declined(11);
+        return Err(Refusal::BadRequest);
     }
-    if bits {
-        if 1 < values[0] {
-            return declined(11);
+    let head = match kind {
+        CellKind::Bits => {
+            if 1 < values[0] {
+                return Err(Refusal::BadRequest);
+            }
+            pair(to.unit_id, 5, reg, 0xFF00 * values[0])
         }
-        let head = [
-            to.unit_id,
-            5,
-            (reg / 256) as u8,
-            (reg % 256) as u8,
-            (255 * values[0]) as u8,
-            0,
-        ];
-        return send(to, &head, &[], request);
-    }
-    let head = [
-        to.unit_id,
-        6,
-        (reg / 256) as u8,
-        (reg % 256) as u8,
-        (values[0] / 256) as u8,
-        (values[0] % 256) as u8,
-    ];
+        CellKind::Words => pair(to.unit_id, 6, reg, values[0]),
+    };
     send(to, &head, &[], request)
 }
 
 // Whether the values are too many for one write, or some are none of a coil.
-fn unfit(bits: bool, values: &[u16]) -> bool
-    ensures { result ≡ choose ((length values.now ≤? most_written (kind_by bits)) and? all_fit? (kind_by bits) values.now) false true }
+fn unfit(kind: CellKind, values: &[u16]) -> bool
+    ensures { result ≡ choose ((length values.now ≤? most_written (kind_in kind)) and? all_fit? (kind_in kind) values.now) false true }
 {
-    if bits {
-        if 1968 < values.len() {
-            return true;
-        }
-        return above_one(values);
+    match kind {
+        CellKind::Bits => 1968 < values.len() || above_one(values),
+        CellKind::Words => 123 < values.len(),
     }
-    if 123 < values.len() {
-        return true;
-    }
-    false
 }
 
 // The function of a write of many coils or registers.
-fn many_number(bits: bool) -> u8
-    ensures { result ≡ code (many (kind_by bits)) }
+fn many_number(kind: CellKind) -> u8
+    ensures { result ≡ code (many (kind_in kind)) }
 {
-    if bits {
-        return 15;
+    match kind {
+        CellKind::Bits => 15,
+        CellKind::Words => 16,
     }
-    16
 }
 
 // Functions 15 and 16: the count, how many bytes of data, and these.
-pub(crate) fn set_many(
+fn set_many(
     to: ModbusRequest,
-    bits: bool,
+    kind: CellKind,
     reg: u16,
     values: &[u16],
     request: &mut [u8],
-) -> Answer
-    ensures { (result, request.new) ≡ laid_into request.old (generated to (write_by reg values.now (many (kind_by bits))) (length request.old)) }
+) -> Result<usize, Refusal>
+    ensures { (answer_of result, request.new) ≡ laid_into request.old (generated to (write_by reg values.now (many (kind_in kind))) (length request.old)) }
 {
-    if unfit(bits, values) {
-        return declined(11);
+    if unfit(kind, values) {
+        return Err(Refusal::BadRequest);
     }
     let n = values.len();
-    let octets = octets_of(bits, n);
-    let func = many_number(bits);
+    let octets = octets_of(kind, n);
     let mut data = [0u8; 246];
-    lay(bits, values, &mut data);
-    send_many(to, func, reg, n, octets, &data, request)
+    lay(kind, values, &mut data);
+    send_many(to, many_number(kind), reg, n as u16, octets, &data, request)
 }
 
 // The first `octets` bytes of the data hold the n values.
@@ -166,24 +154,37 @@ fn send_many(
     to: ModbusRequest,
     func: u8,
     reg: u16,
-    n: usize,
+    n: u16,
     octets: usize,
     data: &[u8],
     request: &mut [u8],
-) -> Answer
-    requires { (n < 65536) × (octets ≤ 246) × (octets ≤ length «data».now) }
-    ensures { (result, request.new) ≡ laid_into request.old (body_sent to (many_body to func reg n octets (take octets «data».now)) (length request.old)) }
+) -> Result<usize, Refusal>
+    requires { (octets ≤ 246) × (octets ≤ length «data».now) }
+    ensures { (answer_of result, request.new) ≡ laid_into request.old (body_sent to (many_body to func reg n octets (take octets «data».now)) (length request.old)) }
 {
-    let head = [
-        to.unit_id,
-        func,
-        (reg / 256) as u8,
-        (reg % 256) as u8,
-        (n / 256) as u8,
-        (n % 256) as u8,
-        octets as u8,
-    ];
+    let [a, b] = reg.to_be_bytes();
+    let [c, d] = n.to_be_bytes();
+    let head = [to.unit_id, func, a, b, c, d, octets as u8];
     send(to, &head, &data[..octets], request)
+}
+
+// Functions 5, 6, 15 and 16: the values are written from `reg` on.
+pub(crate) fn set(
+    to: ModbusRequest,
+    func: u8,
+    reg: u16,
+    values: &[u16],
+    request: &mut [u8],
+) -> Result<usize, Refusal>
+    ensures { (answer_of result, request.new) ≡ laid_into request.old (generated to (setting to.proto func reg values.now) (length request.old)) }
+{
+    match func {
+        5 => set_one(to, CellKind::Bits, reg, values, request),
+        6 => set_one(to, CellKind::Words, reg, values, request),
+        15 => set_many(to, CellKind::Bits, reg, values, request),
+        16 => set_many(to, CellKind::Words, reg, values, request),
+        _ => Err(Refusal::BadRequest),
+    }
 }
 
 // Function 23: the holdings to read, those to write, and the values, which stand in the front of the data.
@@ -192,26 +193,18 @@ pub(crate) fn send_both(
     reg: u16,
     count: u16,
     write_reg: u16,
-    n: usize,
+    n: u16,
     data: &[u8],
     request: &mut [u8],
-) -> Answer
+) -> Result<usize, Refusal>
     requires { (n ≤ 121) × (2 * n ≤ length «data».now) }
-    ensures { (result, request.new) ≡ laid_into request.old (body_sent to (both_body to reg count write_reg n (take (2 * n) «data».now)) (length request.old)) }
+    ensures { (answer_of result, request.new) ≡ laid_into request.old (body_sent to (both_body to reg count write_reg n (take (2 * n) «data».now)) (length request.old)) }
 {
-    let octets = 2 * n;
-    let head = [
-        to.unit_id,
-        23,
-        (reg / 256) as u8,
-        (reg % 256) as u8,
-        (count / 256) as u8,
-        (count % 256) as u8,
-        (write_reg / 256) as u8,
-        (write_reg % 256) as u8,
-        0,
-        n as u8,
-        octets as u8,
-    ];
+    let octets = 2 * (n as usize);
+    let [a, b] = reg.to_be_bytes();
+    let [c, d] = count.to_be_bytes();
+    let [e, f] = write_reg.to_be_bytes();
+    let [g, h] = n.to_be_bytes();
+    let head = [to.unit_id, 23, a, b, c, d, e, f, g, h, octets as u8];
     send(to, &head, &data[..octets], request)
 }

@@ -5,11 +5,12 @@ ghost use Rattle.modbus.specs.Step.{choose};
 ghost use Rattle.modbus.specs.Bytes.{All};
 ghost use Rattle.modbus.specs.Table.{bit, target, Fits};
 ghost use Rattle.modbus.specs.Request.{octets};
+ghost use Rattle.modbus.specs.Paper.{kind_in};
 ghost use Rattle.modbus.specs.Storage.{coil_at, storage, store, datum, values};
-ghost use Rattle.requests.specs.Judged.{kind_by};
 ghost use Rattle.client.specs.Asking.{all_fit?};
 
-use modbus::BitAnswer;
+use modbus::{BitAnswer, CellKind};
+use octets::word;
 use tables::coils::{get_coil, set_coil};
 use tables::registers::set_holding;
 
@@ -17,44 +18,42 @@ use tables::registers::set_holding;
 pub(crate) fn above_one(cells: &[u16]) -> bool
     ensures { result ≡ choose (all_fit? bit cells.now) false true }
 {
-    for i in 0..cells.len() {
-        if 1 < cells[i] {
-            return true;
-        }
-    }
-    false
+    cells.iter().any(|v| 1 < *v)
 }
 
 // How many bytes hold so many values.
-pub(crate) fn octets_of(bits: bool, n: usize) -> usize
+pub(crate) fn octets_of(kind: CellKind, n: usize) -> usize
     requires { n ≤ 2000 }
-    ensures { result ≡ octets (kind_by bits) n }
+    ensures { result ≡ octets (kind_in kind) n }
 {
-    if bits {
-        return (n + 7) / 8;
+    match kind {
+        CellKind::Bits => (n + 7) / 8,
+        CellKind::Words => 2 * n,
     }
-    2 * n
 }
 
 // Cell i of n becomes the value.
-fn put(bits: bool, value: u16, bytes: &mut [u8], n: usize, i: usize)
-    requires { Fits (kind_by bits) value × (octets (kind_by bits) n ≤ length bytes.old) × (n ≤ 1968) × (i < n) }
-    ensures { bytes.new ≡ (storage (target (kind_by bits))).put bytes.old i value }
+fn put(kind: CellKind, value: u16, bytes: &mut [u8], n: usize, i: usize)
+    requires { Fits (kind_in kind) value × (octets (kind_in kind) n ≤ length bytes.old) × (n ≤ 1968) × (i < n) }
+    ensures { bytes.new ≡ (storage (target (kind_in kind))).put bytes.old i value }
 {
-    if bits {
-        set_coil(bytes, n, i as u16, value == 1);
-        return;
+    match kind {
+        CellKind::Bits => {
+            set_coil(bytes, n, i as u16, value == 1);
+        }
+        CellKind::Words => {
+            set_holding(bytes, n, i as u16, value);
+        }
     }
-    set_holding(bytes, n, i as u16, value);
 }
 
 // Each cell becomes its value.
-pub(crate) fn lay(bits: bool, cells: &[u16], bytes: &mut [u8])
-    requires { All (Fits (kind_by bits)) cells.now × (octets (kind_by bits) (length cells.now) ≤ length bytes.old) × (length cells.now ≤ 1968) }
-    ensures { bytes.new ≡ store (storage (target (kind_by bits))) bytes.old 0 cells.now }
+pub(crate) fn lay(kind: CellKind, cells: &[u16], bytes: &mut [u8])
+    requires { All (Fits (kind_in kind)) cells.now × (octets (kind_in kind) (length cells.now) ≤ length bytes.old) × (length cells.now ≤ 1968) }
+    ensures { bytes.new ≡ store (storage (target (kind_in kind))) bytes.old 0 cells.now }
 {
-    for i in 0..cells.len() {
-        put(bits, cells[i], bytes, cells.len(), i);
+    for (i, value) in cells.iter().enumerate() {
+        put(kind, *value, bytes, cells.len(), i);
     }
 }
 
@@ -65,32 +64,27 @@ fn bit_of(bytes: &[u8], n: usize, i: usize) -> u16
 {
     match get_coil(bytes, n, i as u16) {
         BitAnswer::Refused(_) => 0,
-        BitAnswer::Value(on) => {
-            if on {
-                return 1;
-            }
-            0
-        }
+        BitAnswer::Value(on) => on as u16,
     }
 }
 
 // Cell i of n.
-fn cell(bits: bool, bytes: &[u8], n: usize, i: usize) -> u16
-    requires { (octets (kind_by bits) n ≤ length bytes.now) × (n ≤ 2000) × (i < n) }
-    ensures { result ≡ datum (kind_by bits) bytes.now i }
+fn cell(kind: CellKind, bytes: &[u8], n: usize, i: usize) -> u16
+    requires { (octets (kind_in kind) n ≤ length bytes.now) × (n ≤ 2000) × (i < n) }
+    ensures { result ≡ datum (kind_in kind) bytes.now i }
 {
-    if bits {
-        return bit_of(bytes, n, i);
+    match kind {
+        CellKind::Bits => bit_of(bytes, n, i),
+        CellKind::Words => word(bytes, 2 * i),
     }
-    octets::word(bytes, 2 * i)
 }
 
 // Each value becomes its cell.
-pub(crate) fn spread(bits: bool, bytes: &[u8], n: usize, cells: &mut [u16])
-    requires { (octets (kind_by bits) n ≤ length bytes.now) × (n ≤ 2000) × (n ≤ length cells.old) }
-    ensures { cells.new ≡ sets cells.old 0 (values (kind_by bits) n bytes.now) }
+pub(crate) fn spread(kind: CellKind, bytes: &[u8], n: usize, cells: &mut [u16])
+    requires { (octets (kind_in kind) n ≤ length bytes.now) × (n ≤ 2000) × (n ≤ length cells.old) }
+    ensures { cells.new ≡ sets cells.old 0 (values (kind_in kind) n bytes.now) }
 {
-    for i in 0..n {
-        cells[i] = cell(bits, bytes, n, i);
+    for (i, value) in cells[..n].iter_mut().enumerate() {
+        *value = cell(kind, bytes, n, i);
     }
 }

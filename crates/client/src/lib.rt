@@ -6,18 +6,19 @@ mod build;
 mod hear;
 mod lay;
 
-ghost use Rattle.std.specs.Prelude.{◌≡◌, ◌≤◌, length};
+ghost use Rattle.std.specs.Prelude.{◌≡◌, ℕ, length, IfOk, IfErr};
 ghost use Rattle.modbus.specs.Step.{go};
 ghost use Rattle.modbus.specs.Request.{masks, swaps};
-ghost use Rattle.client.specs.Asking.{asker, getting, setting, generated, laid_into, understood, read_into};
-ghost use Rattle.client.specs.Hearing.{declining, read_of, message_in, replied_to};
+ghost use Rattle.client.specs.Asking.{declined_by, asker, getting, setting, generated, laid_into, understood, read_into};
+ghost use Rattle.client.specs.Hearing.{refusal_of, answer_of, reading_of, Said, Unsaid};
+ghost use Rattle.client.specs.declared.Refusal.TheVariants.{BadRequest, Unopened};
 
-use build::{send, send_both, set_many, set_one};
+use build::{pair, send, send_both, set};
 use hear::hear;
 use lay::lay;
-use modbus::Answer;
-use requests::{Verdict, judge};
-use transports::{body_source, open, start_of};
+use modbus::{Answer, CellKind};
+use requests::{Request, judge};
+use transports::{Fault, body_of};
 
 // Whom to ask, and how: the transaction number (TCP alone), the unit, and the transport's number (0 RTU, 1 ASCII, 2 TCP).
 #[repr(C)]
@@ -37,24 +38,74 @@ pub struct Reading {
     pub code: u8,
 }
 
-// The one place where a refusal to build is made.
-pub(crate) fn declined(kind: u8) -> Answer
-    ensures { result ≡ declining kind }
-{
-    Answer {
-        value: 0,
-        kind: kind,
+// Why nothing is built, or nothing is read.
+#[derive(Clone, Copy)]
+pub(crate) enum Refusal {
+    BadRequest,
+    NotMyReply,
+    NoRoom,
+    Unopened(Fault),
+}
+
+impl Refusal {
+    // Document 01's outcome, or the asking side's own number.
+    fn number(self) -> u8
+        ensures { result ≡ declined_by (refusal_of self) }
+    {
+        match self {
+            Refusal::BadRequest => 11,
+            Refusal::NotMyReply => 12,
+            Refusal::NoRoom => 9,
+            Refusal::Unopened(fault) => fault.outcome(),
+        }
     }
 }
 
-// The one place where a reading is made.
-pub(crate) fn told(count: usize, outcome: u8, code: u8) -> Reading
-    ensures { result ≡ read_of count outcome code }
+impl From<Fault> for Refusal {
+    ghost from_gives = { λ fault refusal. refusal ≡ Unopened fault };
+
+    fn from(fault: Fault) -> Refusal {
+        Refusal::Unopened(fault)
+    }
+}
+
+// What a reply brings: so many values, or an exception's code.
+#[derive(Clone, Copy)]
+pub(crate) enum Heard {
+    Values(usize),
+    Exception(u8),
+}
+
+// The one place where C is told of a request: its length, or why there is none.
+fn answer(built: Result<usize, Refusal>) -> Answer
+    ensures { result ≡ answer_of built }
 {
-    Reading {
-        count: count,
-        outcome: outcome,
-        code: code,
+    match built {
+        Ok(len) => Answer {
+            value: len,
+            kind: 0,
+        },
+        Err(refusal) => Answer {
+            value: 0,
+            kind: refusal.number(),
+        },
+    }
+}
+
+impl From<Result<Heard, Refusal>> for Reading {
+    ghost from_gives = { λ heard reading. reading ≡ reading_of heard };
+
+    fn from(heard: Result<Heard, Refusal>) -> Reading {
+        let (count, outcome, code) = match heard {
+            Ok(Heard::Values(n)) => (n, 0, 0),
+            Ok(Heard::Exception(code)) => (0, 2, code),
+            Err(refusal) => (0, refusal.number(), 0),
+        };
+        Reading {
+            count: count,
+            outcome: outcome,
+            code: code,
+        }
     }
 }
 
@@ -85,47 +136,28 @@ impl ModbusRequest {
         ensures { (result, request.new) ≡ laid_into request.old (generated self (getting self.proto func reg count) (length request.old)) }
     {
         if 4 < func {
-            return declined(11);
+            return answer(Err(Refusal::BadRequest));
         }
-        let head = [
-            self.unit_id,
-            func,
-            (reg / 256) as u8,
-            (reg % 256) as u8,
-            (count / 256) as u8,
-            (count % 256) as u8,
-        ];
-        send(self, &head, &[], request)
+        let head = pair(self.unit_id, func, reg, count);
+        answer(send(self, &head, &[], request))
     }
 
     // A request that writes the values from `reg` on: functions 5 and 6 one, 15 and 16 as many as there are.
     pub fn generate_set(self, func: u8, reg: u16, values: &[u16], request: &mut [u8]) -> Answer
         ensures { (result, request.new) ≡ laid_into request.old (generated self (setting self.proto func reg values.now) (length request.old)) }
     {
-        match func {
-            5 => set_one(self, true, reg, values, request),
-            6 => set_one(self, false, reg, values, request),
-            15 => set_many(self, true, reg, values, request),
-            16 => set_many(self, false, reg, values, request),
-            _ => declined(11),
-        }
+        answer(set(self, func, reg, values, request))
     }
 
     // A request that keeps the bits of a holding where the first mask has ones and makes the others the second's: function 22.
     pub fn generate_mask(self, reg: u16, and_mask: u16, or_mask: u16, request: &mut [u8]) -> Answer
         ensures { (result, request.new) ≡ laid_into request.old (generated self (go (masks reg and_mask or_mask)) (length request.old)) }
     {
-        let head = [
-            self.unit_id,
-            22,
-            (reg / 256) as u8,
-            (reg % 256) as u8,
-            (and_mask / 256) as u8,
-            (and_mask % 256) as u8,
-            (or_mask / 256) as u8,
-            (or_mask % 256) as u8,
-        ];
-        send(self, &head, &[], request)
+        let [a, b] = reg.to_be_bytes();
+        let [c, d] = and_mask.to_be_bytes();
+        let [e, f] = or_mask.to_be_bytes();
+        let head = [self.unit_id, 22, a, b, c, d, e, f];
+        answer(send(self, &head, &[], request))
     }
 
     // A request that writes the values from `write_reg` on, and then reads `count` holdings from `reg` on: function 23.
@@ -140,34 +172,48 @@ impl ModbusRequest {
         ensures { (result, request.new) ≡ laid_into request.old (generated self (go (swaps reg count write_reg values.now)) (length request.old)) }
     {
         if 121 < values.len() {
-            return declined(11);
+            return answer(Err(Refusal::BadRequest));
         }
         let mut data = [0u8; 242];
-        lay(false, values, &mut data);
-        send_both(self, reg, count, write_reg, values.len(), &data, request)
+        lay(CellKind::Words, values, &mut data);
+        let n = values.len() as u16;
+        answer(send_both(self, reg, count, write_reg, n, &data, request))
     }
 }
 
-// A request's body, opened: what it asks decides how a reply is read.
-fn answer_to(proto: u8, request: &[u8], sent: &[u8], response: &[u8], values: &mut [u16]) -> Reading
-    requires { (2 ≤ length request.now) × (2 ≤ length sent.now) }
-    ensures { (result, values.new) ≡ read_into values.old (replied_to proto (message_in proto request.now sent.now) response.now (length values.old)) }
+// How many values an answer shows to the request that the body says, if it says one.
+fn shown_by(sent: &[u8]) -> Result<usize, Refusal>
+    ensures ok { (n : ℕ) → IfOk result (λ count. Said n sent.now count) }
+    ensures err { (n : ℕ) → IfErr result (λ refusal. (refusal ≡ BadRequest) × Unsaid n sent.now) }
 {
     match judge(sent, false, 65536, 65536, 65536, 65536) {
-        Verdict::Read(q) => hear(proto, q.count as usize, request, sent, response, values),
-        Verdict::Written(_) => hear(proto, 0, request, sent, response, values),
-        Verdict::Masked(_) => hear(proto, 0, request, sent, response, values),
-        Verdict::Exchanged(x) => hear(
-            proto,
-            x.read_count as usize,
-            request,
-            sent,
-            response,
-            values,
-        ),
-        Verdict::Refused(_) => told(0, 11, 0),
-        Verdict::Quiet(_, _) => told(0, 11, 0),
+        Ok(Request::Read(q)) => Ok(q.count as usize),
+        Ok(Request::Exchange(x)) => Ok(x.read_count as usize),
+        Ok(Request::WriteBits(_)) => Ok(0),
+        Ok(Request::WriteWords(_)) => Ok(0),
+        Ok(Request::Mask(_)) => Ok(0),
+        Err(_) => Err(Refusal::BadRequest),
     }
+}
+
+// A reply read against its request. What the request's body asks decides how.
+fn hear_reply(
+    proto: u8,
+    request: &[u8],
+    response: &[u8],
+    values: &mut [u16],
+) -> Result<Heard, Refusal>
+    ensures { (reading_of result, values.new) ≡ read_into values.old (understood proto request.now response.now (length values.old)) }
+{
+    if 2 < proto {
+        return Err(Refusal::BadRequest);
+    }
+    let mut raw = [0u8; 256];
+    let Ok(sent) = body_of(proto, 0, request, &mut raw) else {
+        return Err(Refusal::BadRequest);
+    };
+    let count = shown_by(sent)?;
+    hear(proto, count, request, sent, response, values)
 }
 
 // Reads a reply against the frame of its request, both strictly: on ASCII they are in capitals. The values of the cells go to the front of
@@ -175,16 +221,5 @@ fn answer_to(proto: u8, request: &[u8], sent: &[u8], response: &[u8], values: &m
 pub fn parse_response(proto: u8, request: &[u8], response: &[u8], values: &mut [u16]) -> Reading
     ensures { (result, values.new) ≡ read_into values.old (understood proto request.now response.now (length values.old)) }
 {
-    if 2 < proto {
-        return told(0, 11, 0);
-    }
-    let mut raw = [0u8; 256];
-    let n = open(proto, 0, request, &mut raw);
-    if n < 2 {
-        return told(0, 11, 0);
-    }
-    let start = start_of(proto);
-    let end = start + n;
-    let source = body_source(proto, &raw, request);
-    answer_to(proto, request, &source[start..end], response, values)
+    Reading::from(hear_reply(proto, request, response, values))
 }

@@ -4,6 +4,7 @@ use mathlib.Core.Bool.{Bool, true, false}
 use mathlib.Core.Logic.{◌⊎◌, inl, inr, ⊎_elim}
 use mathlib.Core.Path.{◌≡◌, refl, sym, ap, subst, ◌∙◌}
 use mathlib.Core.List.{List, [], ◌∷◌}
+use Rattle.std.specs.Prelude.{Option, None, Some, Ok, Err}
 use Prim.Native.Nat.{ℕ, ◌+◌, ◌*◌, ◌/◌, ◌%◌, ◌≤◌, ◌<◌}
 use native.Mathlib.Omega.{arith}
 use lib.ListN.{length, get_or, take, drop, length-drop}
@@ -23,14 +24,15 @@ use Rattle.modbus.proofs.RequestLaws.{asked_says}
 use Rattle.modbus.proofs.Views.{Hexad, hexad, hexad?}
 use Rattle.modbus.proofs.FindLaws.{found_fault}
 use Rattle.modbus.proofs.WeighLaws.{went}
-use Rattle.requests.specs.Judged.{On, refused_by, weighed, kept, kept_by, judged}
+use Rattle.requests.specs.Judged.{On, Verdict, refused_by, spoken, weighed, kept, kept_by, judged}
 use Rattle.requests.specs.declared.Cells.{Cells}
 use Rattle.requests.specs.declared.ReadCells.{ReadCells}
 use Rattle.requests.specs.declared.Mask.{Mask}
 use Rattle.requests.specs.declared.Exchange.{Exchange}
-use Rattle.requests.specs.declared.Write.TheVariants.{Bits, Words}
-use Rattle.requests.specs.declared.Verdict.{Verdict}
-use Rattle.requests.specs.declared.Verdict.TheVariants.{Read, Written, Masked, Exchanged, Refused, Quiet}
+use Rattle.requests.specs.declared.Request.TheVariants as request
+use Rattle.requests.specs.declared.Code.{Code}
+use Rattle.requests.specs.declared.Code.TheVariants.{IllegalFunction, IllegalDataAddress, IllegalDataValue}
+use Rattle.requests.specs.declared.Refusal.{Refusal}
 use Rattle.requests.proofs.JudgedLaws.{many_kept}
 
 -- ---- what a verdict promises of its body
@@ -87,14 +89,18 @@ pub record FineBoth (s : Setup) (broadcast : Bool) (b : List ℕ) (x : Exchange)
   pub fits : All (Fits word) (values word x.write_count (drop 11 b))
   pub own : ¬ On broadcast
 
+-- an exception is told only of a function below 128
+abbrev pub Told : List ℕ → Option Code → Type 0
+Told b None = Unit {0}
+Told b (Some c) = get_or b 1 0 ≤ 127
+
 abbrev pub Fine : Setup → Bool → List ℕ → Verdict → Type 0
-Fine s broadcast b (Read q) = FineRead s broadcast b q
-Fine s broadcast b (Written (Bits c)) = FineWrite bit s broadcast b c
-Fine s broadcast b (Written (Words c)) = FineWrite word s broadcast b c
-Fine s broadcast b (Masked m) = FineMask s broadcast b m
-Fine s broadcast b (Exchanged x) = FineBoth s broadcast b x
-Fine s broadcast b (Refused c) = (weighed s broadcast b ≡ stop (Refused c)) × (get_or b 1 0 ≤ 127)
-Fine s broadcast b (Quiet o c) = weighed s broadcast b ≡ stop (Quiet o c)
+Fine s broadcast b (Ok (request.Read q)) = FineRead s broadcast b q
+Fine s broadcast b (Ok (request.WriteBits c)) = FineWrite bit s broadcast b c
+Fine s broadcast b (Ok (request.WriteWords c)) = FineWrite word s broadcast b c
+Fine s broadcast b (Ok (request.Mask m)) = FineMask s broadcast b m
+Fine s broadcast b (Ok (request.Exchange x)) = FineBoth s broadcast b x
+Fine s broadcast b (Err r) = (weighed s broadcast b ≡ stop r) × Told b (spoken r)
 
 -- the high byte of 0000 or FF00 tells the coil
 one_bit : (b : List ℕ) → Hexad b → ((i : ℕ) → get_or b i 0 < 256) → Valued (one bit) b
@@ -112,38 +118,22 @@ one_bounds : (k : Kind) → (1 ≤ most_written k) × (4 + octets k 1 ≤ 6)
 one_bounds bit = omega arith
 one_bounds word = omega arith
 
--- ---- what a body that is stopped tells: no verdict to serve, and an exception only for a function below 128
+-- ---- what stops a body is fine to tell
 
-abbrev Stopped : List ℕ → Verdict → Type 0
-Stopped b (Read q) = ⊥
-Stopped b (Written w) = ⊥
-Stopped b (Masked m) = ⊥
-Stopped b (Exchanged x) = ⊥
-Stopped b (Refused c) = get_or b 1 0 ≤ 127
-Stopped b (Quiet o c) = Unit {0}
+refused_told : (broadcast : Bool) (c : Code) (b : List ℕ) → get_or b 1 0 ≤ 127 → Told b (spoken (refused_by broadcast c))
+refused_told true c b h = tt
+refused_told false c b h = h
 
-refused_stopped : (broadcast : Bool) (c : ℕ) (b : List ℕ) → get_or b 1 0 ≤ 127 → Stopped b (refused_by broadcast c)
-refused_stopped true c b h = tt
-refused_stopped false c b h = h
-
-stop_stopped : (s : Setup) (broadcast : Bool) (b : List ℕ) (v : Verdict) → weighed s broadcast b ≡ stop v → Stopped b v
+stop_told : (s : Setup) (broadcast : Bool) (b : List ℕ) (r : Refusal) → weighed s broadcast b ≡ stop r → Told b (spoken r)
 unfolding weigh
-stop_stopped s broadcast b v e =
-    needed_stop _ _ _ e (λ n q. subst (Stopped b) q tt)
-    λ p e₁. bound_stop _ _ e₁ (λ q. subst (Stopped b) (found_fault code _ _ _ q) (refused_stopped broadcast 1 b p))
-    λ fn q e₂. needed_stop _ _ _ e₂ (λ n q. subst (Stopped b) q tt)
-    λ o e₃. needed_stop _ _ _ e₃ (λ n q. subst (Stopped b) q tt)
-    λ l e₄. needed_stop _ _ _ e₄ (λ n q. subst (Stopped b) q (refused_stopped broadcast 3 b p))
-    λ y e₅. needed_stop _ _ _ e₅ (λ n q. subst (Stopped b) q (refused_stopped broadcast 2 b p))
+stop_told s broadcast b r e =
+    needed_stop _ _ _ e (λ n q. subst (λ x. Told b (spoken x)) q tt)
+    λ p e₁. bound_stop _ _ e₁ (λ q. subst (λ x. Told b (spoken x)) (found_fault code _ _ _ q) (refused_told broadcast IllegalFunction b p))
+    λ fn q e₂. needed_stop _ _ _ e₂ (λ n q. subst (λ x. Told b (spoken x)) q tt)
+    λ o e₃. needed_stop _ _ _ e₃ (λ n q. subst (λ x. Told b (spoken x)) q tt)
+    λ l e₄. needed_stop _ _ _ e₄ (λ n q. subst (λ x. Told b (spoken x)) q (refused_told broadcast IllegalDataValue b p))
+    λ y e₅. needed_stop _ _ _ e₅ (λ n q. subst (λ x. Told b (spoken x)) q (refused_told broadcast IllegalDataAddress b p))
     λ i e₆. let z : ◌≡◌ {A = ℕ} 0 1 = cc in absurd (omega arith)
-
-stopped_fine : (s : Setup) (broadcast : Bool) (b : List ℕ) (v : Verdict) → weighed s broadcast b ≡ stop v → Fine s broadcast b v
-stopped_fine s broadcast b (Read q) e = absurd (stop_stopped s broadcast b (Read q) e)
-stopped_fine s broadcast b (Written w) e = absurd (stop_stopped s broadcast b (Written w) e)
-stopped_fine s broadcast b (Masked m) e = absurd (stop_stopped s broadcast b (Masked m) e)
-stopped_fine s broadcast b (Exchanged x) e = absurd (stop_stopped s broadcast b (Exchanged x) e)
-stopped_fine s broadcast b (Refused c) e = (e, stop_stopped s broadcast b (Refused c) e)
-stopped_fine s broadcast b (Quiet o c) e = e
 
 module _ (s : Setup) (broadcast : Bool) (b : List ℕ) where
   one_fine : (k : Kind) (v : ℕ) → get_or b 1 0 ≡ code (one k) → weighed s broadcast b ≡ go (asked (one k) b) → length b ≡ 6 → Valued (one k) b
@@ -188,7 +178,7 @@ module _ (s : Setup) (broadcast : Bool) (b : List ℕ) where
 
   module _ (bytes : (i : ℕ) → get_or b i 0 < 256) where
     kept_fine : (fn : Fn) → get_or b 1 0 ≡ code fn → ¬ (On broadcast × IsRead fn) → weighed s broadcast b ≡ go (asked fn b) → Lengthy fn b → Valued fn b
-        → Inside s (asked fn b) → Fine s broadcast b (kept (asked fn b))
+        → Inside s (asked fn b) → Fine s broadcast b (Ok (kept (asked fn b)))
     kept_fine (reads t) n o e l v i =
         record {
           tab = t;
@@ -204,9 +194,9 @@ module _ (s : Setup) (broadcast : Bool) (b : List ℕ) where
     kept_fine (one bit) n o e l v i = one_fine bit _ n e l v refl (one_bit b (hexad? b l) bytes v) i.0
     kept_fine (one word) n o e l v i = one_fine word _ n e l v refl (one_word b (hexad? b l)) i.0
     kept_fine (many bit) n o e l v i =
-        subst (Fine s broadcast b) (sym (many_kept bit b).1) (many_fine bit n e l v (rw length_part at i.0))
+        subst (λ x. Fine s broadcast b (Ok x)) (sym (many_kept bit b).1) (many_fine bit n e l v (rw length_part at i.0))
     kept_fine (many word) n o e l v i =
-        subst (Fine s broadcast b) (sym (many_kept word b).1) (many_fine word n e l v (rw length_part at i.0))
+        subst (λ x. Fine s broadcast b (Ok x)) (sym (many_kept word b).1) (many_fine word n e l v (rw length_part at i.0))
     kept_fine mask n o e l v i = record { goes = e; numbered = n; whole = l; asks = refl; inside = i.0 }
     kept_fine both n o e l v i =
         let c = length_part (register_at (drop 11 b)) 0 (word_at b 8) in
@@ -226,9 +216,9 @@ module _ (s : Setup) (broadcast : Bool) (b : List ℕ) where
     unfolding judged
     judged_fine = by (weighed s broadcast b) refl
       where
-        by : (w : Step Verdict Ask) → weighed s broadcast b ≡ w → Fine s broadcast b (kept_by w)
-        by (stop v) e = stopped_fine s broadcast b v e
-        by (go a) e = went _ _ s _ b e λ fn n o l v i z. subst (λ x. Fine s broadcast b (kept x)) z (kept_fine fn n o (rw z e) l v (rw z i))
+        by : (w : Step Refusal Ask) → weighed s broadcast b ≡ w → Fine s broadcast b (kept_by w)
+        by (stop r) e = (e, stop_told s broadcast b r e)
+        by (go a) e = went _ _ s _ b e λ fn n o l v i z. subst (λ x. Fine s broadcast b (Ok (kept x))) z (kept_fine fn n o (rw z e) l v (rw z i))
 
     -- for a match on the answer
     pub fine : {r : Verdict} → r ≡ judged s broadcast b → {q : Verdict} → r ≡ q → Fine s broadcast b q

@@ -1,17 +1,20 @@
 -- What the answer of an opening tells of the frame.
 -- Assumes nothing.
 use mathlib.Core.Logic.{by_cases}
-use Rattle.std.proofs.Common.{◌≡◌, ℕ, zero, suc, ◌+◌, ◌-◌, ◌<◌, ◌≤◌, List, [], ◌∷◌, length, get_or, take, drop, sym, refl, ap, ◌∙◌, subst, ap₂, arith, length-drop, length-take-le}
+use Rattle.std.proofs.Common.{◌≡◌, ℕ, ◌+◌, ◌-◌, ◌≤◌, List, [], ◌∷◌, length, get_or, take, drop, sym, refl, ap, ◌∙◌, subst, ap₂, arith, length-drop, length-take-le}
+use Rattle.std.specs.Prelude.{Result, Ok, Err}
 use Rattle.modbus.specs.Step.{Step, stop, go, ◌≤?◌, ◌and?◌}
 use Rattle.modbus.specs.Hex.{spelt, untext}
 use Rattle.modbus.specs.Frame.{tag_of, start_of}
-use Rattle.modbus.specs.Decode.{Message, Silent, frame_broken_quiet, frame_check_quiet, outcome_of, or_broken, unwrap, spelled_in}
+use Rattle.modbus.specs.Decode.{Message, Silent, frame_broken_quiet, frame_check_quiet, or_broken, unwrap, spelled_in}
 use Rattle.modbus.specs.declared.ErrorKind.{ErrorKind}
 use Rattle.modbus.specs.declared.ModbusProto.{ModbusProto}
 use Rattle.modbus.specs.declared.ModbusProto.TheVariants.{Rtu, Ascii, TcpUdp}
 use Rattle.modbus.proofs.StepLaws.{needed, bound, tested}
 use Rattle.modbus.proofs.HexLaws.{length_text, text_untext, length_spelt}
-use Rattle.transports.specs.Opened.{opened, fault_of, source, Fronted}
+use Rattle.transports.specs.declared.Fault.{Fault}
+use Rattle.transports.specs.declared.Fault.TheVariants.{Broken, WrongCheck}
+use Rattle.transports.specs.Opened.{opened, fault_of, source, Holds, Fronted}
 use Rattle.transports.specs.Lines.{Lined, lined?}
 use Rattle.transports.proofs.OpenedLaws.{rtu_broken, rtu_checked, headed?, tcp_broken, tcp_body}
 use Rattle.transports.proofs.AsciiLaws.{digits, length_digits, ascii_unlined, ascii_digits, ascii_stop}
@@ -91,54 +94,63 @@ Opens p g f n raw =
     × (2 ≤ length f)
     × (n ≤ 254)
 
-module _ (p : ModbusProto) (f : List ℕ) (n : ℕ) (q : n ≡ opened (unwrap p f)) where
-  -- an answer below 2 tells why there is no body
-  pub opened_none : n < 2 → unwrap p f ≡ stop (fault_of n)
-  opened_none h = by (held p f)
+module _ (p : ModbusProto) (f : List ℕ) where
+  -- a fault tells why there is no body
+  pub opened_none : (x : Fault) → Err x ≡ opened (unwrap p f) → unwrap p f ≡ stop (fault_of x)
+  opened_none x q = by (held p f)
     where
-      by : Held (unwrap p f) → unwrap p f ≡ stop (fault_of n)
-      by (holds m e) = let k = q ∙ ap opened e in absurd (omega (arith, (sized p f m e).low))
-      by (broken e) = e ∙ ap (λ (k : ℕ). stop (fault_of k)) (sym (q ∙ ap opened e))
-      by (wrong e) = e ∙ ap (λ (k : ℕ). stop (fault_of k)) (sym (q ∙ ap opened e))
+      same : (y : Fault) → ◌≡◌ {A = Result ℕ Fault} (Err x) (Err y) → ◌≡◌ {A = Step Silent Message} (stop (fault_of y)) (stop (fault_of x))
+      same y e = let z : x ≡ y = cc in ap (λ (k : Fault). stop (fault_of k)) (sym z)
 
-  message : {C : Type 0} → 2 ≤ n → ((m : Message) → unwrap p f ≡ go m → n ≡ length m.body → C) → C
-  message {C} h c = by (held p f)
-    where
-      by : Held (unwrap p f) → C
-      by (holds m e) = c m e (q ∙ ap opened e)
-      by (broken e) = let k = q ∙ ap opened e in absurd (omega arith)
-      by (wrong e) = let k = q ∙ ap opened e in absurd (omega arith)
+      by : Held (unwrap p f) → unwrap p f ≡ stop (fault_of x)
+      by (holds m e) = let z : ◌≡◌ {A = ℕ} 0 1 = let k = q ∙ ap opened e in cc in absurd (omega arith)
+      by (broken e) = e ∙ same Broken (q ∙ ap opened e)
+      by (wrong e) = e ∙ same WrongCheck (q ∙ ap opened e)
 
-  -- any other is the length of a body that stands in the source, and tells what the frame is taken apart to
-  opened_body : (raw : List ℕ) → Fronted (unwrap p f) (drop (start_of p) (source p f raw)) → length raw ≡ 256 → 2 ≤ n → Opens p f f n raw
-  opened_body raw w g h =
-      message h λ m e k.
-      let s = sized p f m e in
-      let l = drop (start_of p) (source p f raw) in
-      let b : take n l ≡ m.body = ap (λ (i : ℕ). take i l) k ∙ (rw e at w) in (
-        e ∙ ap₂ (λ (x y : List ℕ). go (record { tag = x; body = y })) s.tagged (sym b),
-        h,
-        in_source p f raw n (omega arith) (omega arith) g,
-        omega arith,
-        omega arith,
-      )
+  module _ (n : ℕ) (q : Ok n ≡ opened (unwrap p f)) where
+    message : {C : Type 0} → ((m : Message) → unwrap p f ≡ go m → n ≡ length m.body → C) → C
+    message {C} c = by (held p f)
+      where
+        by : Held (unwrap p f) → C
+        by (holds m e) = let k = q ∙ ap opened e in c m e cc
+        by (broken e) = let z : ◌≡◌ {A = ℕ} 0 1 = let k = q ∙ ap opened e in cc in absurd (omega arith)
+        by (wrong e) = let z : ◌≡◌ {A = ℕ} 0 1 = let k = q ∙ ap opened e in cc in absurd (omega arith)
 
-  -- two such answers have one body
-  pub same_body : (l l' : List ℕ) → Fronted (unwrap p f) l → Fronted (unwrap p f) l' → 2 ≤ n → take n l ≡ take n l'
-  same_body l l' w w' h =
-      message h λ m e k.
-      ap (λ (i : ℕ). take i l) k ∙ (rw e at w) ∙ sym (rw e at w') ∙ ap (λ (i : ℕ). take i l') (sym k)
+    -- a length is that of a body that stands in the source, and tells what the frame is taken apart to
+    pub opened_body : (raw : List ℕ) → Fronted (unwrap p f) (drop (start_of p) (source p f raw)) → length raw ≡ 256 → Opens p f f n raw
+    opened_body raw w g =
+        message λ m e k.
+        let s = sized p f m e in
+        let l = drop (start_of p) (source p f raw) in
+        let b : take n l ≡ m.body = ap (λ (i : ℕ). take i l) k ∙ (rw e at w) in (
+          e ∙ ap₂ (λ (x y : List ℕ). go (record { tag = x; body = y })) s.tagged (sym b),
+          omega (arith, s.low),
+          in_source p f raw n (omega arith) (omega arith) g,
+          omega arith,
+          omega arith,
+        )
+
+    -- two such answers have one body
+    pub same_body : (l l' : List ℕ) → Fronted (unwrap p f) l → Fronted (unwrap p f) l' → take n l ≡ take n l'
+    same_body l l' w w' =
+        message λ m e k.
+        ap (λ (i : ℕ). take i l) k ∙ (rw e at w) ∙ sym (rw e at w') ∙ ap (λ (i : ℕ). take i l') (sym k)
 
 -- the same of a frame as the switch has it read: only the text of a line is another, which is as long
-pub opened_under : (p : ModbusProto) (h : ℕ) (f : List ℕ) (n : ℕ) → n ≡ opened (unwrap p (spelled_in p h f)) → (raw : List ℕ)
-    → Fronted (unwrap p (spelled_in p h f)) (drop (start_of p) (source p f raw)) → length raw ≡ 256 → 2 ≤ n → Opens p (spelled_in p h f) f n raw
-opened_under Rtu h f n q raw w g k = opened_body Rtu f n q raw w g k
-opened_under Ascii h f n q raw w g k =
-    let b = opened_body Ascii (spelt h f) n q raw w g k in (b.0, b.1, b.2, omega (arith, b.3, length_spelt h f), b.4)
-opened_under TcpUdp h f n q raw w g k = opened_body TcpUdp f n q raw w g k
+pub opened_under : (p : ModbusProto) (h : ℕ) (f : List ℕ) (n : ℕ) → Ok n ≡ opened (unwrap p (spelled_in p h f)) → (raw : List ℕ)
+    → Fronted (unwrap p (spelled_in p h f)) (drop (start_of p) (source p f raw)) → length raw ≡ 256 → Opens p (spelled_in p h f) f n raw
+opened_under Rtu h f n q raw w g = opened_body Rtu f n q raw w g
+opened_under Ascii h f n q raw w g =
+    let b = opened_body Ascii (spelt h f) n q raw w g in (b.0, b.1, b.2, omega (arith, b.3, length_spelt h f), b.4)
+opened_under TcpUdp h f n q raw w g = opened_body TcpUdp f n q raw w g
 
--- its number is an outcome's
-pub number_fault : (n : ℕ) → n < 2 → outcome_of (fault_of n) ≡ n + 5
-number_fault zero h = refl
-number_fault (suc zero) h = refl
-number_fault (suc (suc n)) h = absurd (omega arith)
+-- n bytes from a place on, by that place and the one behind them
+pub part_same : (start n k : ℕ) (s s' : List ℕ) → start ≡ k → s ≡ s' → take ((start + n) - start) (drop start s) ≡ take n (drop k s')
+part_same start n k s s' e f = let z : (start + n) - start ≡ n = omega arith in rw (z, e, f)
+
+pub opens_holds : (p : ModbusProto) (g f : List ℕ) (n start : ℕ) (raw s : List ℕ) → Opens p g f n raw → start ≡ start_of p → s ≡ source p f raw
+    → Holds p f (take ((start + n) - start) (drop start s)) (unwrap p g)
+opens_holds p g f n start raw s h e k =
+    let z = part_same start n (start_of p) s (source p f raw) e k in
+    let l : length (take n (drop (start_of p) (source p f raw))) ≡ n = length-take-le n _ (simp length-drop (omega (arith, h.2))) in
+    (h.0 ∙ ap (λ (b : List ℕ). go (record { tag = tag_of p (get_or f 0 0) (get_or f 1 0); body = b })) (sym z), rw z (omega (arith, h.1, l)), h.3)

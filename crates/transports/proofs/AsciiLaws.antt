@@ -1,7 +1,10 @@
 -- What an ASCII frame holds: whether it is a line, how its text is read, and what the check says of its bytes.
 -- Assumes nothing.
 use Rattle.std.proofs.Common.{◌≡◌, ℕ, ◌+◌, ◌-◌, ◌*◌, ◌≤◌, Bool, true, false, List, [], ◌∷◌, length, get_or, take, drop, sym, refl, ap, ◌∙◌, arith, length-drop, length-take, take_at}
+use Rattle.std.specs.Prelude.{Result, Err}
 use lib.Seq.{sets, sets-eq, length-sets}
+use Rattle.std.proofs.Common.{⊎_elim, eqb}
+use Rattle.std.proofs.lemmas.Bool.Decides.{eqb_tells}
 use Rattle.modbus.specs.Step.{Step, stop, go, choose, ◌≤?◌, ◌≟◌}
 use Rattle.modbus.specs.Paper.{told, byte_paper}
 use Rattle.modbus.specs.Hex.{spell, spelt, untext}
@@ -11,17 +14,20 @@ use Rattle.modbus.specs.declared.ErrorKind.TheVariants.{OOB}
 use Rattle.modbus.specs.declared.ByteAnswer.{ByteAnswer}
 use Rattle.modbus.specs.declared.ByteAnswer.TheVariants as byte
 use Rattle.modbus.specs.declared.ModbusProto.TheVariants.{Ascii}
-use Rattle.modbus.proofs.StepLaws.{pass, fail, follow, halt, pick_yes, picked}
+use Rattle.modbus.proofs.StepLaws.{pass, fail, follow, halt, pick_yes, pick_no, picked}
 use Rattle.modbus.proofs.HexLaws.{length_text, text_untext, length_spelt, get_d_spelt, drop_spelt, spell_before, spell_back, spelt_before, spelt_back}
 use Rattle.modbus.proofs.PaperLaws.{byte_value, byte_refusal}
 use Rattle.ascii.specs.Reading.{finished, refused, Decoded, decode, text_parsed, counted, parsed_into}
 use Rattle.ascii.specs.Plain.{pair_values}
 use Rattle.ascii.proofs.PlainLaws.{decode_untext, untext_values}
 use Rattle.ascii.proofs.SpeltLaws.{digits_spelt}
+use Rattle.transports.specs.declared.Fault.{Fault}
+use Rattle.transports.specs.declared.Fault.TheVariants.{Broken}
 use Rattle.transports.specs.Opened.{opened, Fronted}
 use Rattle.transports.specs.Checked.{checked, lrc_byte}
 use Rattle.transports.specs.Lines.{Lined, lined?, ShortLine}
 use Rattle.transports.proofs.CheckedLaws.{checked_front}
+use Rattle.transports.proofs.OpenedLaws.{last_two, same_two}
 use Rattle.transports.proofs.TextLaws.{untext_decode, counted_go, counted_stop}
 
 -- the digits of a line
@@ -125,25 +131,35 @@ module _ (f : List ℕ) (room : ℕ) (h : Lined f) (fits : 254 ≤ room) where
         (c, ascii_digits f h _ (u ∙ ap (λ (d : Decoded). go d.bytes) (sym p)))
 
 -- what the code says of the shape
-module _ (f : List ℕ) (r : Bool) (e : r ≡ choose (lined? f) false true) where
-  pub not_lined : r ≡ true → ¬ Lined f
+module _ (f : List ℕ) (r : Bool) (e : r ≡ choose (lined? f) true false) where
+  pub not_lined : r ≡ false → ¬ Lined f
   not_lined q = picked _ _ _ (sym e ∙ q) (λ _ z. let n : ◌≡◌ {A = ℕ} 0 1 = cc in absurd (omega arith)) (λ n _. n)
 
-  pub is_lined : r ≡ false → Lined f
+  pub is_lined : r ≡ true → Lined f
   is_lined q = picked _ _ _ (sym e ∙ q) (λ p _. p) (λ _ z. let n : ◌≡◌ {A = ℕ} 0 1 = cc in absurd (omega arith))
 
+-- what begins as a line ends as one or doesn't
+pub line_end : (f : List ℕ) → 9 ≤ length f → length f ≤ 511 → get_or f 0 0 ≡ 58 → get_or f (length f - 2) 0 ≡ 13
+    → eqb (get_or f (length f - 2 + 1) 0) 10 ≡ choose (lined? f) true false
+line_end f h k c r =
+    let n = length f - 2 in
+    ⊎_elim
+    (λ p. p.0 ∙ sym (pick_yes (lined? f) _ _ (h, (k, (c, last_two f n (omega arith) ∙ rw (r, p.1))))))
+    (λ p. p.0 ∙ sym (pick_no (lined? f) _ _ (λ (l : Lined f). p.1 (same_two f n _ _ (omega arith) l.1.1.1).1)))
+    (eqb_tells (get_or f (n + 1) 0) 10)
+
 -- o is the answer for a line, and its body stands at the front of `raw`
-abbrev pub Told : List ℕ → ℕ → List ℕ → Type 0
+abbrev pub Told : List ℕ → Result ℕ Fault → List ℕ → Type 0
 Told f o raw = (o ≡ opened (unwrap Ascii f)) × Fronted (unwrap Ascii f) raw
 
-told_stop : (f raw : List ℕ) → unwrap Ascii f ≡ stop frame_broken_quiet → Told f 0 raw
+told_stop : (f raw : List ℕ) → unwrap Ascii f ≡ stop frame_broken_quiet → Told f (Err Broken) raw
 told_stop f raw e = rw e (refl, tt)
 
-told_checked : (f raw : List ℕ) (n : ℕ) (o : ℕ) → 1 ≤ n → n ≤ length raw → unwrap Ascii f ≡ checked lrc_byte 1 (take n raw)
+told_checked : (f raw : List ℕ) (n : ℕ) (o : Result ℕ Fault) → 1 ≤ n → n ≤ length raw → unwrap Ascii f ≡ checked lrc_byte 1 (take n raw)
     → o ≡ opened (checked lrc_byte 1 (take n raw)) → Told f o raw
 told_checked f raw n o low high e p = rw e (p, checked_front lrc_byte 1 raw n low high)
 
-pub text_unlined : (f raw : List ℕ) → ¬ Lined f → Told f 0 raw
+pub text_unlined : (f raw : List ℕ) → ¬ Lined f → Told f (Err Broken) raw
 text_unlined f raw h = told_stop f raw (ascii_unlined f h)
 
 -- what was decoded stands at the front
@@ -162,17 +178,17 @@ module _ (f raw after : List ℕ) (r : ByteAnswer) (h : Lined f) (fits : 254 ≤
   pub decoded_kept : length after ≡ length raw
   decoded_kept = ap length left ∙ length-sets raw 0 (reading f (length raw)).bytes
 
-  pub text_refused : (k : ErrorKind) → r ≡ byte.Refused k → Told f 0 after
+  pub text_refused : (k : ErrorKind) → r ≡ byte.Refused k → Told f (Err Broken) after
   text_refused k q = told_stop f after (ascii_refused f (length raw) h fits k (byte_refusal r _ k paper q))
 
   module _ (n : ℕ) (q : r ≡ byte.Value n) where
-    pub text_cut : ¬ (2 * n + 3 ≡ length f) → Told f 0 after
+    pub text_cut : ¬ (2 * n + 3 ≡ length f) → Told f (Err Broken) after
     text_cut j = told_stop f after (ascii_cut f (length raw) h fits n (byte_value r _ n paper q) j)
 
     pub text_within : 2 * n + 3 ≡ length f → (1 ≤ n) × (n ≤ length after)
     text_within j = (omega arith, omega (arith, decoded_kept))
 
-    pub text_read : 2 * n + 3 ≡ length f → (o : ℕ) → o ≡ opened (checked lrc_byte 1 (take n after)) → Told f o after
+    pub text_read : 2 * n + 3 ≡ length f → (o : Result ℕ Fault) → o ≡ opened (checked lrc_byte 1 (take n after)) → Told f o after
     text_read j o p =
         let (m, u) = ascii_read f (length raw) h fits n (byte_value r _ n paper q) j in
         let t = ap (take n) left ∙ front (reading f (length raw)).bytes raw n m (omega arith) in
@@ -180,7 +196,7 @@ module _ (f raw after : List ℕ) (r : ByteAnswer) (h : Lined f) (fits : 254 ≤
         told_checked f after n o w.0 w.1 (u ∙ ap (checked lrc_byte 1) (sym t)) p
 
 -- a line of seven bytes was decoded to the front of `after`
-pub short_read : (f after : List ℕ) (o : ℕ) → Lined f → ShortLine f → take 7 after ≡ pair_values (drop 1 (take 15 f)) → 7 ≤ length after
+pub short_read : (f after : List ℕ) (o : Result ℕ Fault) → Lined f → ShortLine f → take 7 after ≡ pair_values (drop 1 (take 15 f)) → 7 ≤ length after
     → o ≡ opened (checked lrc_byte 1 (take 7 after)) → Told f o after
 short_read f after o h (n, d) e k p =
     let z : length f - 2 ≡ 15 = omega arith in

@@ -1,7 +1,9 @@
 -- What an RTU frame and a TCP frame hold, by their shape and their check.
 -- Assumes nothing.
 use mathlib.Core.Logic.{by_cases}
-use Rattle.std.proofs.Common.{◌≡◌, ℕ, suc, ◌+◌, ◌-◌, ◌/◌, ◌%◌, ◌≤◌, List, [], ◌∷◌, length, get_or, take, drop, sym, ap, ◌∙◌, add-one, arith, length-drop, drop_of_length-le, length-take-le, drop-cons}
+use Rattle.std.proofs.Common.{◌≡◌, ℕ, suc, ◌+◌, ◌-◌, ◌/◌, ◌%◌, ◌<◌, ◌≤◌, List, [], ◌∷◌, length, get_or, take, drop, sym, ap, ◌∙◌, add-one, arith, length-drop, drop_of_length-le, length-take-le, drop-cons}
+use Rattle.std.specs.Prelude.{Ok}
+use Rattle.std.specs.Int.{w16, to_le_bytes}
 use lib.Seq.{take-length}
 use Rattle.modbus.specs.Step.{stop, go, ◌≤?◌, ◌≟◌, ◌and?◌}
 use Rattle.modbus.specs.Bytes.{word_at}
@@ -22,6 +24,10 @@ last_two f n e =
 -- they are these, or one of them is not
 pub same_two : (f : List ℕ) (n a b : ℕ) → n + 2 ≡ length f → drop n f ≡ a ∷ b ∷ [] → (get_or f n 0 ≡ a) × (get_or f (n + 1) 0 ≡ b)
 same_two f n a b e q = let p = sym (last_two f n e) ∙ q in (cc, cc)
+
+-- what `to_le_bytes` makes of a 16-bit number
+pub two_bytes : (x : ℕ) (l : List ℕ) → x < 65536 → l ≡ to_le_bytes w16 x → (get_or l 0 0 ≡ x % 256) × (get_or l 1 0 ≡ x / 256)
+two_bytes x l h e = (ap (λ (m : List ℕ). get_or m 0 0) e, ap (λ (m : List ℕ). get_or m 1 0) e ∙ omega arith)
 
 -- ---- RTU
 
@@ -52,8 +58,8 @@ module _ (f : List ℕ) (x : ℕ) (h : Long f) (e : x ≡ crc (take (length f - 
       ∙ checked_right crc_bytes 2 f (length f) (omega arith) (omega arith)
       (rw take-length (last_two f (length f - 2) (omega arith) ∙ rw (p, q, e)))
 
-pub rtu_length : (f : List ℕ) → length f - 2 ≡ opened (go (record { tag = []; body = take (length f - 2) f }))
-rtu_length f = sym (length-take-le (length f - 2) f (omega arith))
+pub rtu_length : (f : List ℕ) → Ok (length f - 2) ≡ opened (go (record { tag = []; body = take (length f - 2) f }))
+rtu_length f = ap Ok (sym (length-take-le (length f - 2) f (omega arith)))
 
 pub rtu_front : (f : List ℕ) → Fronted (unwrap Rtu f) f
 rtu_front f =
@@ -78,8 +84,8 @@ pub tcp_body : (f : List ℕ) → Headed f → unwrap TcpUdp f ≡ go (record { 
 unfolding unwrap
 tcp_body f h = pass _ _ _ h
 
-pub tcp_length : (f : List ℕ) (n : ℕ) → n + 6 ≡ length f → n ≡ opened (go (record { tag = take 2 f; body = drop 6 f }))
-tcp_length f n e = simp length-drop (omega arith)
+pub tcp_length : (f : List ℕ) (n : ℕ) → n + 6 ≡ length f → Ok n ≡ opened (go (record { tag = take 2 f; body = drop 6 f }))
+tcp_length f n e = ap Ok (simp length-drop (omega arith))
 
 pub tcp_front : (f : List ℕ) → Fronted (unwrap TcpUdp f) (drop 6 f)
 tcp_front f = by_cases (headed? f) (λ h. rw (tcp_body f h) (take-length (drop 6 f))) (λ n. rw (tcp_broken f n) tt)

@@ -1,6 +1,7 @@
 -- A frame laid over the front of the reply, in which its body stands.
 -- Assumes nothing.
 use Rattle.std.proofs.Common.{◌≡◌, ℕ, suc, ◌+◌, ◌*◌, ◌/◌, ◌%◌, ◌≤◌, List, [], ◌∷◌, ◌++◌, length, take, drop, set, sym, refl, ap, ◌∙◌, append_assoc, add-one, arith, length-drop, length-set, take-append-drop, length-take-le, take-take, drop-drop}
+use Rattle.std.specs.Prelude.{Option, Some, None}
 use lib.Seq.{sets, sets-eq}
 use Rattle.modbus.specs.Check.{crc, lrc}
 use Rattle.modbus.specs.Hex.{digit, text}
@@ -39,20 +40,20 @@ sets_same l i n h =
     sets-eq (take n (drop i l)) l i (omega arith) ∙ rw (k, append_assoc, ← drop-drop n i l, take-append-drop n (drop i l), take-append-drop i l)
 
 module _ (p : ModbusProto) (tag : List ℕ) (n : ℕ) (reply : List ℕ) where
-  pub sealed_none : ¬ Seals p n reply → ◌≡◌ {A = ℕ × List ℕ} (0, reply) (sealed p tag n reply)
+  pub sealed_none : ¬ Seals p n reply → ◌≡◌ {A = Option ℕ × List ℕ} (None, reply) (sealed p tag n reply)
   sealed_none h = sym (pick_no _ _ _ h)
 
   pub sealed_room : room_for p ≤ length reply → n ≤ 253
-      → sealed p tag n reply ≡ (around p n, sets reply 0 (wrap p tag (take n (drop (start_of p) reply))))
+      → sealed p tag n reply ≡ (Some (around p n), sets reply 0 (wrap p tag (take n (drop (start_of p) reply))))
   sealed_room h k = pick_yes _ _ _ (k, h)
 
   sealed_by : room_for p ≤ length reply → n ≤ 253 → (after : List ℕ) → after ≡ sets reply 0 (wrap p tag (take n (drop (start_of p) reply)))
-      → ◌≡◌ {A = ℕ × List ℕ} (around p n, after) (sealed p tag n reply)
-  sealed_by h k after e = ap (λ (l : List ℕ). (around p n, l)) e ∙ sym (sealed_room h k)
+      → ◌≡◌ {A = Option ℕ × List ℕ} (Some (around p n), after) (sealed p tag n reply)
+  sealed_by h k after e = ap (λ (l : List ℕ). (Some (around p n), l)) e ∙ sym (sealed_room h k)
 
 -- the CRC's two bytes behind the body
 pub rtu_sealed : (reply : List ℕ) (n x : ℕ) → 260 ≤ length reply → n ≤ 253 → x ≡ crc (take n reply)
-    → ◌≡◌ {A = ℕ × List ℕ} (n + 2, set (set reply n (x % 256)) (n + 1) (x / 256)) (sealed Rtu [] n reply)
+    → ◌≡◌ {A = Option ℕ × List ℕ} (Some (n + 2), set (set reply n (x % 256)) (n + 1) (x / 256)) (sealed Rtu [] n reply)
 rtu_sealed reply n x h k e =
     let m = length-take-le n reply (omega arith) in
     sealed_by Rtu [] n reply h k _
@@ -67,7 +68,7 @@ behind : (high low n : ℕ) (reply : List ℕ) → Six reply → drop 6 (header 
 behind high low n _ (six a b c d e g r) = refl
 
 pub tcp_sealed : (high low : ℕ) (reply : List ℕ) (n : ℕ) → 260 ≤ length reply → n ≤ 253
-    → ◌≡◌ {A = ℕ × List ℕ} (n + 6, header high low n reply) (sealed TcpUdp (high ∷ low ∷ []) n reply)
+    → ◌≡◌ {A = Option ℕ × List ℕ} (Some (n + 6), header high low n reply) (sealed TcpUdp (high ∷ low ∷ []) n reply)
 tcp_sealed high low reply n h k =
     let b = take n (drop 6 reply) in
     let o = header high low n reply in
@@ -92,8 +93,8 @@ colon_first (x ∷ l) t h = ap (λ (l : List ℕ). set l 0 58) (sets_behind x l 
 module _ (reply : List ℕ) (n : ℕ) (h : 511 ≤ length reply) (k : n ≤ 253) (x : ℕ) (first : List ℕ)
     (e : x ≡ lrc (take n reply)) (f : first ≡ sets reply 1 (text (take n reply))) where
   pub ascii_sealed : (u v : ℕ) → u ≡ digit (x / 16 % 16) → v ≡ digit (x % 16)
-      → ◌≡◌ {A = ℕ × List ℕ}
-      (2 * n + 5, set (set (set (set (set first 0 58) (2 * n + 1) u) (2 * n + 2) v) (2 * n + 3) 13) (2 * n + 4) 10)
+      → ◌≡◌ {A = Option ℕ × List ℕ}
+      (Some (2 * n + 5), set (set (set (set (set first 0 58) (2 * n + 1) u) (2 * n + 2) v) (2 * n + 3) 13) (2 * n + 4) 10)
       (sealed Ascii [] n reply)
   unfolding text
   ascii_sealed u v p q =

@@ -1,6 +1,7 @@
 -- Each contract leaves one possible result, and one possible content of every lent buffer; that of an opening one possible body.
 -- Assumes nothing.
-use Rattle.std.proofs.Common.{◌≡◌, ℕ, ◌≤◌, List, take, drop, sym, refl, ap, ◌∙◌}
+use Rattle.std.proofs.Common.{◌≡◌, ℕ, List, take, drop, sym, refl, ap, ◌∙◌}
+use Rattle.std.specs.Prelude.{Result, Ok, Option}
 use contract.Lifetimes.{Lfts}
 use borrow.Fn.Kinds.{Dens, res_t, ended_of}
 use denote.Triple.Clauses.{Lasts, at_exit}
@@ -10,6 +11,7 @@ use Rattle.modbus.specs.Frame.{start_of}
 use Rattle.modbus.specs.Decode.{spelled_in}
 use Rattle.modbus.specs.declared.ModbusProto.TheVariants.{Ascii}
 use Rattle.modbus.proofs.Unique.{Unique}
+use Rattle.transports.specs.declared.Fault.{Fault}
 use Rattle.transports.specs.Opened.{source}
 use Rattle.transports.proofs.AnswerLaws.{same_body}
 use Rattle.transports.proofs.open.Kinds as open-kinds
@@ -34,24 +36,24 @@ pub open_tcp : Unique 1 open-tcp-kinds.ps open-tcp-kinds.r open-tcp-reads.Post
 open_tcp κs a x y u v p q = (p ∙ sym q, refl)
 
 -- of `raw`, what is at the front: as many bytes as the answer says
-pub open_ascii : (κs : Lfts 2) (a : Dens κs open-ascii-kinds.ps) (x y : ℕ)
+pub open_ascii : (κs : Lfts 2) (a : Dens κs open-ascii-kinds.ps) (x y : Result ℕ Fault)
     (u v : Lasts (ended_of 2 open-ascii-kinds.ps open-ascii-kinds.r) κs a)
     → open-ascii-reads.Post κs a x (at_exit (ended_of 2 open-ascii-kinds.ps open-ascii-kinds.r) κs a u)
     → open-ascii-reads.Post κs a y (at_exit (ended_of 2 open-ascii-kinds.ps open-ascii-kinds.r) κs a v)
-    → (x ≡ y) × (2 ≤ x → take x u.1.1.0 ≡ take x v.1.1.0)
+    → (x ≡ y) × ((n : ℕ) → x ≡ Ok n → take n u.1.1.0 ≡ take n v.1.1.0)
 open_ascii κs a x y u v p q =
-    (p.0 ∙ sym q.0, same_body Ascii (spelt a.0 a.1.0.now) x p.0 u.1.1.0 v.1.1.0 p.1.0 q.1.0)
+    (p.0 ∙ sym q.0, λ n e. same_body Ascii (spelt a.0 a.1.0.now) n (sym e ∙ p.0) u.1.1.0 v.1.1.0 p.1.0 q.1.0)
 
 -- the same where the body stands
-pub «open» : (κs : Lfts 2) (a : Dens κs open-kinds.ps) (x y : ℕ) (u v : Lasts (ended_of 2 open-kinds.ps open-kinds.r) κs a)
+pub «open» : (κs : Lfts 2) (a : Dens κs open-kinds.ps) (x y : Result ℕ Fault) (u v : Lasts (ended_of 2 open-kinds.ps open-kinds.r) κs a)
     → open-reads.Post κs a x (at_exit (ended_of 2 open-kinds.ps open-kinds.r) κs a u)
     → open-reads.Post κs a y (at_exit (ended_of 2 open-kinds.ps open-kinds.r) κs a v)
     → (x ≡ y)
-    × (2 ≤ x
-    → take x (drop (start_of (proto_of a.0)) (source (proto_of a.0) a.1.1.0.now u.1.1.1.0))
-    ≡ take x (drop (start_of (proto_of a.0)) (source (proto_of a.0) a.1.1.0.now v.1.1.1.0)))
+    × ((n : ℕ) → x ≡ Ok n
+    → take n (drop (start_of (proto_of a.0)) (source (proto_of a.0) a.1.1.0.now u.1.1.1.0))
+    ≡ take n (drop (start_of (proto_of a.0)) (source (proto_of a.0) a.1.1.0.now v.1.1.1.0)))
 «open» κs a x y u v p q =
-    (p.0 ∙ sym q.0, same_body (proto_of a.0) (spelled_in (proto_of a.0) a.1.0 a.1.1.0.now) x p.0 _ _ p.1.0 q.1.0)
+    (p.0 ∙ sym q.0, λ n e. same_body (proto_of a.0) (spelled_in (proto_of a.0) a.1.0 a.1.1.0.now) n (sym e ∙ p.0) _ _ p.1.0 q.1.0)
 
 pub start_of_law : Unique 0 start-of-kinds.ps start-of-kinds.r start-of-reads.Post
 start_of_law κs a x y u v p q = (p ∙ sym q, refl)
@@ -67,6 +69,6 @@ body_source κs a x y u v p q = (p ∙ sym q, refl)
 pub seal : Unique 1 seal-kinds.ps seal-kinds.r seal-reads.Post
 seal κs a x y u v p q =
     let e = p ∙ sym q in (
-      ap (λ (t : ℕ × List ℕ). t.0) e,
-      ap (λ (t : ℕ × List ℕ). (u.0, (u.1.0, (u.1.1.0, (u.1.1.1.0, (t.1, u.1.1.1.1.1)))))) e,
+      ap (λ (t : Option ℕ × List ℕ). t.0) e,
+      ap (λ (t : Option ℕ × List ℕ). (u.0, (u.1.0, (u.1.1.0, (u.1.1.1.0, (t.1, u.1.1.1.1.1)))))) e,
     )

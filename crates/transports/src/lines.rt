@@ -12,48 +12,36 @@ ghost use Rattle.transports.specs.Checked.{checked, lrc_byte};
 ghost use Rattle.transports.specs.Lines.{lined?, Digits, ShortLine};
 ghost use Rattle.transports.specs.Sealed.{sealed};
 
+use crate::Fault;
 use ascii::{low_digit, other, parse_text, put_text};
 use checks::calc_lrc;
 use modbus::ByteAnswer;
 use response::extend;
-use std::num::wrapping_sub_u8;
 
-// Whether a frame is no line of text within the bounds.
-fn unlined(frame: &[u8]) -> bool
-    ensures { result ≡ choose (lined? frame.now) false true }
+// Whether a frame is a line of text within the bounds.
+fn is_line(frame: &[u8]) -> bool
+    ensures { result ≡ choose (lined? frame.now) true false }
 {
-    if frame.len() < 9 {
-        return true;
-    }
-    if 511 < frame.len() {
-        return true;
-    }
-    if frame[0] != 58 {
-        return true;
+    if frame.len() < 9 || 511 < frame.len() {
+        return false;
     }
     let n = frame.len() - 2;
-    if frame[n] != 13 {
-        return true;
-    }
-    if frame[n + 1] != 10 {
-        return true;
-    }
-    false
+    frame[0] == b':' && frame[n] == b'\r' && frame[n + 1] == b'\n'
 }
 
 // The first n bytes of `raw` are a body and then its LRC, if the last is that.
-fn check_lrc(raw: &[u8], n: u8) -> usize
+fn check_lrc(raw: &[u8], n: u8) -> Result<usize, Fault>
     requires { (1 ≤ n) × (n ≤ length raw.now) }
     ensures { result ≡ opened (checked lrc_byte 1 (take n raw.now)) }
 {
     let k = n - 1;
     match calc_lrc(raw, k) {
-        ByteAnswer::Refused(_) => 0,
+        ByteAnswer::Refused(_) => Err(Fault::Broken),
         ByteAnswer::Value(lrc) => {
             if raw[k as usize] != lrc {
-                return 1;
+                return Err(Fault::WrongCheck);
             }
-            k as usize
+            Ok(k as usize)
         }
     }
 }
@@ -64,8 +52,8 @@ fn others_in_eight(line: &[u8], at: usize) -> u8
     ensures { result ≡ 0 → Digits line.now at 8 }
 {
     let mut others: u8 = 0;
-    for i in 0..8usize {
-        others = others | other(line[at + i]);
+    for c in &line[at..at + 8] {
+        others |= other(*c);
     }
     others
 }
@@ -100,29 +88,29 @@ fn decode_eight(line: &[u8], raw: &mut [u8])
     ensures raw_after { take 7 raw.new ≡ pair_values (drop 1 (take 15 line.now)) }
     ensures raw_len_unchanged { length raw.new ≡ length raw.old }
 {
-    for i in 0..8usize {
-        raw[i] = half(line[2 * i + 1]) * 16 + half(line[2 * i + 2]);
+    for (i, byte) in raw[..8].iter_mut().enumerate() {
+        *byte = half(line[2 * i + 1]) * 16 + half(line[2 * i + 2]);
     }
 }
 
 // The body is decoded to the front of `raw`. A line of seven bytes in capitals means the same under every switch.
-pub fn open_ascii(hex: u8, frame: &[u8], raw: &mut [u8; 256]) -> usize
+pub fn open_ascii(hex: u8, frame: &[u8], raw: &mut [u8; 256]) -> Result<usize, Fault>
     ensures value { result ≡ opened (unwrap Ascii (spelt hex frame.now)) }
     ensures fronted { Fronted (unwrap Ascii (spelt hex frame.now)) raw.new }
     ensures raw_len_unchanged { length raw.new ≡ length raw.old }
 {
-    if unlined(frame) {
-        return 0;
+    if !is_line(frame) {
+        return Err(Fault::Broken);
     }
     if is_short(frame) {
         decode_eight(frame, raw);
         return check_lrc(raw, 7);
     }
     match parse_text(frame, frame.len() - 2, raw, 0, hex) {
-        ByteAnswer::Refused(_) => 0,
+        ByteAnswer::Refused(_) => Err(Fault::Broken),
         ByteAnswer::Value(n) => {
             if 2 * (n as usize) + 3 != frame.len() {
-                return 0;
+                return Err(Fault::Broken);
             }
             check_lrc(raw, n)
         }
@@ -135,11 +123,10 @@ fn lay_few(dst: &mut [u8], bytes: &[u8]) -> u8
     ensures { (result ≡ lrc bytes.now) × (dst.new ≡ sets dst.old 1 (text bytes.now)) }
 {
     let mut check: u8 = 0;
-    for i in 0..bytes.len() {
-        let b = bytes[i];
-        check = wrapping_sub_u8(check, b);
-        dst[2 * i + 1] = low_digit(b / 16);
-        dst[2 * i + 2] = low_digit(b);
+    for (i, b) in bytes.iter().enumerate() {
+        check = check.wrapping_sub(*b);
+        dst[2 * i + 1] = low_digit(*b / 16);
+        dst[2 * i + 2] = low_digit(*b);
     }
     check
 }
@@ -174,12 +161,12 @@ fn lay_front(reply: &mut [u8], n: usize) -> u8
 }
 
 // The text of the body and of its LRC goes between a colon and the end of the line.
-pub(crate) fn seal_ascii(n: u8, reply: &mut [u8]) -> usize
+pub(crate) fn seal_ascii(n: u8, reply: &mut [u8]) -> Option<usize>
     requires { n ≤ 253 }
     ensures { (result, reply.new) ≡ sealed Ascii [] n reply.old }
 {
     if reply.len() < 511 {
-        return 0;
+        return None;
     }
     let m = n as usize;
     let check = lay_front(reply, m);
@@ -188,5 +175,5 @@ pub(crate) fn seal_ascii(n: u8, reply: &mut [u8]) -> usize
     reply[2 * m + 2] = low_digit(check);
     reply[2 * m + 3] = 13;
     reply[2 * m + 4] = 10;
-    2 * m + 5
+    Some(2 * m + 5)
 }

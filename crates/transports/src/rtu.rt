@@ -5,40 +5,35 @@ ghost use Rattle.modbus.specs.declared.ModbusProto.TheVariants.{Rtu};
 ghost use Rattle.transports.specs.Opened.{opened};
 ghost use Rattle.transports.specs.Sealed.{sealed};
 
+use crate::Fault;
 use checks::calc_crc16;
 
 // The body is the front of the frame.
-pub fn open_rtu(frame: &[u8]) -> usize
+pub fn open_rtu(frame: &[u8]) -> Result<usize, Fault>
     ensures { result ≡ opened (unwrap Rtu frame.now) }
 {
-    if frame.len() < 4 {
-        return 0;
-    }
-    if 256 < frame.len() {
-        return 0;
+    if frame.len() < 4 || 256 < frame.len() {
+        return Err(Fault::Broken);
     }
     let n = frame.len() - 2;
-    let crc = calc_crc16(frame, n as u8);
-    if frame[n] as u16 != crc % 256 {
-        return 1;
+    let [low, high] = calc_crc16(frame, n as u8).to_le_bytes();
+    if frame[n] != low || frame[n + 1] != high {
+        return Err(Fault::WrongCheck);
     }
-    if frame[n + 1] as u16 != crc / 256 {
-        return 1;
-    }
-    n
+    Ok(n)
 }
 
 // The CRC goes behind the body.
-pub(crate) fn seal_rtu(n: u8, reply: &mut [u8]) -> usize
+pub(crate) fn seal_rtu(n: u8, reply: &mut [u8]) -> Option<usize>
     requires { n ≤ 253 }
     ensures { (result, reply.new) ≡ sealed Rtu [] n reply.old }
 {
     if reply.len() < 260 {
-        return 0;
+        return None;
     }
     let m = n as usize;
-    let crc = calc_crc16(reply, n);
-    reply[m] = (crc % 256) as u8;
-    reply[m + 1] = (crc / 256) as u8;
-    m + 2
+    let [low, high] = calc_crc16(reply, n).to_le_bytes();
+    reply[m] = low;
+    reply[m + 1] = high;
+    Some(m + 2)
 }

@@ -5,37 +5,32 @@ ghost use Rattle.modbus.specs.declared.ModbusProto.TheVariants.{TcpUdp};
 ghost use Rattle.transports.specs.Opened.{opened};
 ghost use Rattle.transports.specs.Sealed.{sealed};
 
+use crate::Fault;
 use octets::word;
 
-pub fn open_tcp(frame: &[u8]) -> usize
+pub fn open_tcp(frame: &[u8]) -> Result<usize, Fault>
     ensures { result ≡ opened (unwrap TcpUdp frame.now) }
 {
-    if frame.len() < 8 {
-        return 0;
+    if frame.len() < 8 || 260 < frame.len() {
+        return Err(Fault::Broken);
     }
-    if 260 < frame.len() {
-        return 0;
-    }
-    if frame[2] != 0 {
-        return 0;
-    }
-    if frame[3] != 0 {
-        return 0;
+    if word(frame, 2) != 0 {
+        return Err(Fault::Broken);
     }
     let n = word(frame, 4) as usize;
     if n + 6 != frame.len() {
-        return 0;
+        return Err(Fault::Broken);
     }
-    n
+    Ok(n)
 }
 
 // The header goes before the body.
-pub(crate) fn seal_tcp(high: u8, low: u8, n: u8, reply: &mut [u8]) -> usize
+pub(crate) fn seal_tcp(high: u8, low: u8, n: u8, reply: &mut [u8]) -> Option<usize>
     requires { n ≤ 253 }
     ensures { (result, reply.new) ≡ sealed TcpUdp (high ∷ low ∷ []) n reply.old }
 {
     if reply.len() < 260 {
-        return 0;
+        return None;
     }
     reply[0] = high;
     reply[1] = low;
@@ -43,5 +38,5 @@ pub(crate) fn seal_tcp(high: u8, low: u8, n: u8, reply: &mut [u8]) -> usize
     reply[3] = 0;
     reply[4] = 0;
     reply[5] = n;
-    n as usize + 6
+    Some(n as usize + 6)
 }

@@ -1,15 +1,17 @@
 -- `requests::judge_address` meets its contract: outside, and inside.
 -- Assumes nothing.
 use mathlib.Core.Path.{sym, ap, ◌∙◌}
-use Rattle.modbus.proofs.StepLaws.{pick_yes, pick_no, test_refuses, test_passes}
-use Rattle.requests.specs.declared.Verdict.TheVariants.{Written}
+use Rattle.std.specs.Prelude.{Ok}
+use Rattle.modbus.proofs.StepLaws.{pick_yes, pick_no}
+use Rattle.requests.proofs.JudgedLaws.{needed_ok, needed_err, needed_out}
 use Rattle.requests.proofs.judge_address.Goals as goal
 
-pub returns-then-outside : goal.returns-then-outside
-returns-then-outside c =
-    c.refused.ensures ∙ sym (pick_no _ _ _ (test_refuses _ _ c.outside.ensures c.if-outside.true))
+pub returns-in_err-inside : goal.returns-in_err-inside
+returns-in_err-inside c =
+    needed_out _ _ c.inside.ensures c.from_residual.ensures.1 c.in_err-inside.was
+    ∙ sym (pick_no _ _ _ (needed_err _ _ c.inside.ensures c.in_err-inside.was))
 
 pub returns : goal.returns
 returns c =
-    ap Written c.write_of.ensures
-    ∙ sym (pick_yes _ _ _ (test_passes _ _ c.outside.ensures c.if-outside.false))
+    ap Ok c.write_of.ensures
+    ∙ sym (pick_yes _ _ _ (needed_ok _ _ c.inside.ensures c.in_ok-inside.was))

@@ -13,12 +13,11 @@ returns-then-n-gt253 c =
     let p = proto_of a.transport in
     sealed_none p (tag_of p a.high a.low) a.n a.reply.now (λ h. omega arith)
 
-pub returns-then-transport-eq0 : goal.returns-then-transport-eq0
-returns-then-transport-eq0 c = rw c.if-transport-eq0.true c.seal_rtu.ensures
+pub returns-in-0 : goal.returns-in-0
+returns-in-0 c = rw c.in-0.is c.seal_rtu.ensures
 
-pub returns-then-transport-eq1 : goal.returns-then-transport-eq1
-returns-then-transport-eq1 c = rw c.if-transport-eq1.true c.seal_ascii.ensures
+pub returns-in-1 : goal.returns-in-1
+returns-in-1 c = rw c.in-1.is c.seal_ascii.ensures
 
-pub returns : goal.returns
-returns c =
-    rw (proto_tcp _ c.if-transport-eq0.false c.if-transport-eq1.false) c.seal_tcp.ensures
+pub returns-in_default : goal.returns-in_default
+returns-in_default c = rw (proto_tcp c.args.transport (λ h. omega arith) (λ h. omega arith)) c.seal_tcp.ensures

@@ -8,7 +8,7 @@ use Rattle.modbus.specs.Table.{word, Fits}
 use Rattle.modbus.proofs.BytesLaws.{all_by}
 use Rattle.client.specs.Asking.{laid_into}
 use Rattle.client.proofs.LayLaws.{data_shown}
-use Rattle.client.proofs.BuildLaws.{declined_bad, both_built, both_unbuilt}
+use Rattle.client.proofs.BuildLaws.{both_built, both_unbuilt}
 use Rattle.client.proofs.ModbusRequest.generate_set_get.Goals as goal
 
 long : length (replicate {A = ℕ} 242 0) ≡ 242
@@ -17,8 +17,8 @@ long = length-replicate {A = ℕ} 242 0
 pub returns-then-values-gt121 : goal.returns-then-values-gt121
 returns-then-values-gt121 c =
     let a = c.args in
-    declined_bad a.request.now _ _ c.declined.ensures
-    (both_unbuilt a.self (length a.request.now) a.reg a.count a.write_reg a.values.now (omega (arith, c.if-values-gt121.true)))
+    rw c.answer.ensures (sym (ap (laid_into a.request.now)
+    (both_unbuilt a.self (length a.request.now) a.reg a.count a.write_reg a.values.now (omega (arith, c.if-values-gt121.true)))))
 
 pub lay-requires : goal.lay-requires
 lay-requires c =
@@ -30,7 +30,7 @@ returns c =
     let a = c.args in
     let vs = c.args.values.now in
     let fits = all_by (Fits word) vs (λ i h. omega (arith, c.type_inv.values i)) in
-    c.send_both.ensures
+    rw c.answer-2.ensures (c.send_both.ensures
     ∙ sym (ap (laid_into a.request.now)
     (both_built a.self (length a.request.now) a.reg a.count a.write_reg (length vs) vs _ refl fits
-    (ap (take (2 * length vs)) c.lay.ensures ∙ data_shown word vs 242 fits (omega (arith, c.if-values-gt121.false)))))
+    (ap (take (2 * length vs)) c.lay.ensures ∙ data_shown word vs 242 fits (omega (arith, c.if-values-gt121.false))))))

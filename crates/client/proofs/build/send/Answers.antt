@@ -9,24 +9,23 @@ use lib.ListN.{length}
 use Rattle.requests.specs.Judged.{weighed}
 use Rattle.client.specs.Asking.{every_cell, laid_into}
 use Rattle.client.specs.Hearing.{failed, roomed, framed}
-use Rattle.client.proofs.BuildLaws.{declined_bad}
 use Rattle.client.proofs.CloseLaws.{transport_high, unsaid, said}
-use Rattle.client.proofs.HearLaws.{part_same}
+use Rattle.transports.proofs.AnswerLaws.{part_same}
 use Rattle.client.proofs.build.send.Goals as goal
 
 pub returns-then-to-gt2 : goal.returns-then-to-gt2
 returns-then-to-gt2 c =
     let a = c.args in
-    declined_bad a.request.now _ _ c.declined.ensures
-    (transport_high a.to (a.head.now ++ a.«data».now) a.request.now (λ h. omega (arith, c.if-to-gt2.true)))
+    sym (ap (laid_into a.request.now)
+    (transport_high a.to (a.head.now ++ a.«data».now) a.request.now (λ h. omega (arith, c.if-to-gt2.true))))
 
 pub returns-then-unasked : goal.returns-then-unasked
 returns-then-unasked c =
     let a = c.args in
     let e = part_same _ c.lay_parts-n.result _ _ _ refl refl ∙ c.lay_parts-n.ensures.2 in
     let u = c.unasked.ensures a.to.proto ∙ ap (λ (l : List ℕ). failed (weighed (every_cell a.to.proto) false l)) e in
-    declined_bad a.request.now _ _ c.declined-then-unasked.ensures
-    (unsaid a.to (a.head.now ++ a.«data».now) a.request.now (omega (arith, c.if-to-gt2.false)) _ u c.if-unasked.true)
+    sym (ap (laid_into a.request.now)
+    (unsaid a.to (a.head.now ++ a.«data».now) a.request.now (omega (arith, c.if-to-gt2.false)) _ u c.if-unasked.true))
 
 pub returns : goal.returns
 returns c =

@@ -1,24 +1,22 @@
--- `client::build::unfit` meets its contract: too many, or a value above 1 among coils.
+-- `client::build::unfit` meets its contract, by the kind.
 -- Assumes nothing.
+use mathlib.Core.Path.{◌∙◌}
 use native.Mathlib.Omega.{arith}
+use Rattle.std.proofs.lemmas.Bool.{lt-ltb}
 use Rattle.modbus.specs.Table.{word, Fits}
 use Rattle.modbus.proofs.BytesLaws.{all_by}
-use Rattle.client.proofs.LayLaws.{unfit_bits, unfit_some, unfit_words, fit_words}
+use Rattle.client.proofs.LayLaws.{unfit_bits, unfit_some, unfit_words}
 use Rattle.client.proofs.build.unfit.Goals as goal
 
 pub returns-then-values-gt1968 : goal.returns-then-values-gt1968
-returns-then-values-gt1968 c = let a = c.args in unfit_bits a.bits a.values.now c.if-bits.true c.if-values-gt1968.true
-
-pub returns-then-bits : goal.returns-then-bits
-returns-then-bits c =
+returns-then-values-gt1968 c =
     let a = c.args in
-    unfit_some a.bits a.values.now _ c.if-bits.true (λ h. omega (arith, c.if-values-gt1968.false)) c.above_one.ensures
+    lt-ltb _ _ c.if-values-gt1968.true ∙ unfit_bits a.kind a.values.now c.in-Bits.is c.if-values-gt1968.true
 
-pub returns-then-values-gt123 : goal.returns-then-values-gt123
-returns-then-values-gt123 c = let a = c.args in unfit_words a.bits a.values.now c.if-bits.false c.if-values-gt123.true
+pub returns-else-values-gt1968 : goal.returns-else-values-gt1968
+returns-else-values-gt1968 c = let a = c.args in unfit_some a.kind a.values.now _ c.in-Bits.is c.if-values-gt1968.false c.above_one.ensures
 
-pub returns : goal.returns
-returns c =
+pub returns-in-Words : goal.returns-in-Words
+returns-in-Words c =
     let a = c.args in
-    fit_words a.bits a.values.now c.if-bits.false (λ h. omega (arith, c.if-values-gt123.false))
-    (all_by (Fits word) a.values.now (λ i h. omega (arith, c.type_inv.values i)))
+    unfit_words a.kind a.values.now c.in-Words.is (all_by (Fits word) a.values.now (λ i h. omega (arith, c.type_inv.values i)))

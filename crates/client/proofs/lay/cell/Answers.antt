@@ -4,5 +4,5 @@ use mathlib.Core.Path.{◌∙◌}
 use Rattle.client.proofs.LayLaws.{cell_word}
 use Rattle.client.proofs.lay.cell.Goals as goal
 
-pub returns : goal.returns
-returns c = let a = c.args in c.word.ensures ∙ cell_word a.bits a.bytes.now a.i c.if-bits.false
+pub returns-in-Words : goal.returns-in-Words
+returns-in-Words c = let a = c.args in c.word.ensures ∙ cell_word a.kind a.bytes.now a.i c.in-Words.is

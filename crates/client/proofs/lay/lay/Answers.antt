@@ -4,7 +4,7 @@ use mathlib.Core.Path.{refl}
 use native.Mathlib.Omega.{arith}
 use Rattle.modbus.specs.Table.{target}
 use Rattle.modbus.specs.Storage.{storage}
-use Rattle.requests.specs.Judged.{kind_by}
+use Rattle.modbus.specs.Paper.{kind_in}
 use Rattle.client.proofs.LayLaws.{store_step, store_done}
 use Rattle.client.proofs.lay.lay.Goals as goal
 
@@ -13,12 +13,11 @@ loop-i-preserved c =
     let a = c.args in
     let l = c.loop-i in (
       omega arith,
-      omega arith,
-      store_step (storage (target (kind_by a.bits))) l.bytes a.cells.now l.i _ _ _ l.invariant.2 (omega arith) c.put.ensures refl,
+      store_step (storage (target (kind_in a.kind))) l.bytes a.cells.now l.i _ _ _ l.invariant.1 (omega arith) c.put.ensures refl,
     )
 
 pub returns : goal.returns
 returns c =
     let a = c.args in
     let l = c.loop-i in
-    store_done (storage (target (kind_by a.bits))) l.bytes a.cells.now l.i _ l.invariant.2 (omega arith)
+    store_done (storage (target (kind_in a.kind))) l.bytes a.cells.now l.i _ l.invariant.1 (omega arith)

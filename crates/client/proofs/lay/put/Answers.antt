@@ -3,12 +3,12 @@
 use Rattle.client.proofs.LayLaws.{put_bit, put_word}
 use Rattle.client.proofs.lay.put.Goals as goal
 
-pub returns-then-bits : goal.returns-then-bits
-returns-then-bits c =
+pub returns-in-Bits : goal.returns-in-Bits
+returns-in-Bits c =
     let a = c.args in
-    put_bit a.bytes.now _ a.n a.i a.value c.set_coil.result c.requires.2 c.requires.3 a.bits c.if-bits.true c.requires.0 c.requires.1 c.set_coil.ensures
+    put_bit a.bytes.now _ a.n a.i a.value c.set_coil.result c.requires.2 c.requires.3 a.kind c.in-Bits.is c.requires.0 c.requires.1 c.set_coil.ensures
 
-pub returns : goal.returns
-returns c =
+pub returns-in-Words : goal.returns-in-Words
+returns-in-Words c =
     let a = c.args in
-    put_word a.bytes.now _ a.n a.i a.value c.set_holding.result c.requires.2 c.requires.3 a.bits c.if-bits.false c.requires.1 c.set_holding.ensures
+    put_word a.bytes.now _ a.n a.i a.value c.set_holding.result c.requires.2 c.requires.3 a.kind c.in-Words.is c.requires.1 c.set_holding.ensures

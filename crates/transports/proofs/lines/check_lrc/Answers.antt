@@ -1,6 +1,7 @@
 -- `transports::lines::check_lrc` meets its contract: the last byte is the LRC of those before, or it is not.
 -- Assumes nothing.
 use Rattle.std.proofs.Common.{sym, ap, ◌∙◌, arith, length-take-le}
+use Rattle.std.specs.Prelude.{Ok}
 use Rattle.checks.proofs.WithinLaws.{lrc_value, lrc_never}
 use Rattle.transports.specs.Opened.{opened}
 use Rattle.transports.proofs.CheckedLaws.{lrc_wrong, lrc_right}
@@ -21,5 +22,5 @@ pub returns-else-raw-k : goal.returns-else-raw-k
 returns-else-raw-k c =
     let a = c.args in
     let e = lrc_value _ a.raw.now _ (omega arith) c.calc_lrc.ensures _ c.in-Value.is in
-    sym (length-take-le _ a.raw.now (omega arith))
+    ap Ok (sym (length-take-le _ a.raw.now (omega arith)))
     ∙ sym (ap opened (lrc_right a.raw.now a.n (omega arith) (omega arith) (c.if-raw-k.false ∙ e)))

@@ -15,20 +15,18 @@ upper b h = let e : b / 16 % 16 ≡ b / 16 = omega arith in ap digit e
 
 pub loop-i-init : goal.loop-i-init
 unfolding lrc sum
-loop-i-init c = (omega arith, refl, refl, refl)
+loop-i-init c = (refl, refl, refl)
 
 pub loop-i-preserved : goal.loop-i-preserved
 loop-i-preserved c =
-    let a = c.args in
     let s = c.args.bytes.now in
     let i = c.loop-i.i in
-    let b = c.shared_slice_known-in-loop-i-1.given i in
+    let b = c.type_inv.bytes i in
     let k : 2 * (i + 1) + 1 ≡ 2 * i + 1 + 2 = omega arith in
     let z : 2 * i + 2 ≡ suc (2 * i + 1) = omega arith in (
-      omega arith,
-      simp length-set c.loop-i.invariant.1,
-      lrc_step s i _ (omega arith) (omega arith) (c.wrapping_sub_u8-check.ensures.value ∙ c.loop-i.invariant.2),
-      rw k (rest_step s [] c.loop-i.dst i (2 * i + 1) _ c.loop-i.invariant.3 _ _ _ (omega arith) (c.low_digit.ensures ∙ upper _ (omega arith))
+      simp length-set c.loop-i.invariant.0,
+      lrc_step s i _ (omega arith) (omega arith) (omega (arith, c.loop-i.invariant.1)),
+      rw k (rest_step s [] c.loop-i.dst i (2 * i + 1) _ c.loop-i.invariant.2 _ _ _ (omega arith) (c.low_digit.ensures ∙ upper _ (omega arith))
           c.low_digit-in-loop-i.ensures (rw z)),
     )
 
@@ -37,6 +35,6 @@ returns c =
     let a = c.args in
     let s = c.args.bytes.now in
     let i = c.loop-i.i in (
-      c.loop-i.invariant.2 ∙ ap lrc (take_all i s (omega arith)),
-      rest_done s [] c.loop-i.dst i (2 * i + 1) _ c.loop-i.invariant.3 _ (omega arith) refl ∙ ap (sets a.dst.now 1) (append-nil (text s)),
+      c.loop-i.invariant.1 ∙ ap lrc (take_all i s (omega arith)),
+      rest_done s [] c.loop-i.dst i (2 * i + 1) _ c.loop-i.invariant.2 _ (omega arith) refl ∙ ap (sets a.dst.now 1) (append-nil (text s)),
     )

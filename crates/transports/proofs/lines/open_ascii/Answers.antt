@@ -20,23 +20,23 @@ read : (p : After-parse_text)
     × (254 ≤ length p.args.raw.now)
     × (◌≡◌ {A = (ℕ × ℕ) × List ℕ} (byte_paper p.parse_text.result, p.parse_text.new.frame_buf) (parsed_into f (length f - 2) p.args.raw.now 0))
 read p = (
-  lined_spelt _ p.args.frame.now (is_lined p.args.frame.now _ p.unlined.ensures p.if-unlined.false),
+  lined_spelt _ p.args.frame.now (is_lined p.args.frame.now _ p.is_line.ensures p.if-not-is_line.false),
   omega (arith, p.well_formed),
   p.parse_text.ensures
       ∙ ap (λ (n : ℕ). parsed_into (spelt p.args.hex p.args.frame.now) (n - 2) p.args.raw.now 0) (sym (length_spelt _ p.args.frame.now)),
 )
 
-pub returns-then-unlined : goal.returns-then-unlined
-returns-then-unlined c =
+pub returns-then-not-is_line : goal.returns-then-not-is_line
+returns-then-not-is_line c =
     let f = c.args.frame.now in
-    let n = not_lined f _ c.unlined.ensures c.if-unlined.true in
+    let n = not_lined f _ c.is_line.ensures c.if-not-is_line.true in
     let t = text_unlined (spelt c.args.hex f) _ (λ h. n (spelt_lined c.args.hex f h)) in
     record { value = t.0; fronted = t.1; raw_len_unchanged = refl }
 
 pub returns-then-is_short : goal.returns-then-is_short
 returns-then-is_short c =
     let f = c.args.frame.now in
-    let h = is_lined f _ c.unlined.ensures c.if-unlined.false in
+    let h = is_lined f _ c.is_line.ensures c.if-not-is_line.false in
     let e = c.decode_eight.ensures.raw_after in
     let q = c.is_short.ensures c.if-is_short.true in
     let x = c.args.hex in
@@ -46,7 +46,7 @@ returns-then-is_short c =
 
 pub overflow_sub-frame : goal.overflow_sub-frame
 overflow_sub-frame c =
-    let h = is_lined c.args.frame.now _ c.unlined.ensures c.if-unlined.false in omega arith
+    let h = is_lined c.args.frame.now _ c.is_line.ensures c.if-not-is_line.false in omega arith
 
 pub returns-then-n-frame : goal.returns-then-n-frame
 returns-then-n-frame c =
