@@ -102,9 +102,9 @@ impl From<Result<Heard, Refusal>> for Reading {
             Err(refusal) => (0, refusal.number(), 0),
         };
         Reading {
-            count: count,
-            outcome: outcome,
-            code: code,
+            count,
+            outcome,
+            code,
         }
     }
 }
@@ -116,8 +116,8 @@ impl ModbusRequest {
     {
         ModbusRequest {
             tr_id: 1,
-            unit_id: unit_id,
-            proto: proto,
+            unit_id,
+            proto,
         }
     }
 
@@ -125,8 +125,8 @@ impl ModbusRequest {
         ensures { result ≡ asker tr_id unit_id 2 }
     {
         ModbusRequest {
-            tr_id: tr_id,
-            unit_id: unit_id,
+            tr_id,
+            unit_id,
             proto: 2,
         }
     }
@@ -176,8 +176,16 @@ impl ModbusRequest {
         }
         let mut data = [0u8; 242];
         lay(CellKind::Words, values, &mut data);
-        let n = values.len() as u16;
-        answer(send_both(self, reg, count, write_reg, n, &data, request))
+        let n = values.len();
+        answer(send_both(
+            self,
+            reg,
+            count,
+            write_reg,
+            n as u16,
+            &data[..2 * n],
+            request,
+        ))
     }
 }
 
