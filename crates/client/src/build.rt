@@ -146,7 +146,14 @@ fn set_many(
     let octets = octets_of(kind, n);
     let mut data = [0u8; 246];
     lay(kind, values, &mut data);
-    send_many(to, many_number(kind), reg, n as u16, &data[..octets], request)
+    send_many(
+        to,
+        many_number(kind),
+        reg,
+        n as u16,
+        &data[..octets],
+        request,
+    )
 }
 
 // The data hold the n values.

@@ -10,7 +10,7 @@ use Rattle.client.proofs.hear.other_tag.Goals as goal
 pub returns-then-proto-ge2 : goal.returns-then-proto-ge2
 returns-then-proto-ge2 c =
     let a = c.args in
-    tag_test a.proto _ _ _ _ _ _ c.if-proto-ge2.true (omega (arith, c.type_inv.request 1)) (omega (arith, c.type_inv.response 1)) c.word.ensures c.word-then-proto-ge2.ensures
+    tag_test a.proto a.request.now a.response.now _ c.if-proto-ge2.true c.requires.0 c.requires.1 c.ne.ensures
 
 pub returns-else-proto-ge2 : goal.returns-else-proto-ge2
 returns-else-proto-ge2 c = lt-leb _ _ c.if-proto-ge2.false ∙ sym (pick_yes _ _ _ (tag_none c.args.proto _ _ _ _ c.if-proto-ge2.false))
