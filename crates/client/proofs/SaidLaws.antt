@@ -123,15 +123,16 @@ module _ (n : ℕ) (b : List ℕ) where
   -- how many values the answer shows
   abbrev pub shown_by : Request → ℕ
   shown_by (request.Read q) = q.count
-  shown_by (request.Write w) = 0
+  shown_by (request.WriteBits c) = 0
+  shown_by (request.WriteWords c) = 0
   shown_by (request.Mask m) = 0
   shown_by (request.Exchange x) = x.read_count
 
   module _ (bytes : (i : ℕ) → get_or b i 0 < 256) (v : Verdict) (e : verdict_paper v ≡ verdict_paper (judged (every_cell n) false b)) where
     tells : (v : Verdict) → Fine (every_cell n) false b v → MatchResult v (λ q. Said n b (shown_by q)) (λ r. Unsaid n b)
     tells (Ok (request.Read q)) h = read_said q h
-    tells (Ok (request.Write (Bits c))) h = stores_said bit c h
-    tells (Ok (request.Write (Words c))) h = stores_said word c h
+    tells (Ok (request.WriteBits c)) h = stores_said bit c h
+    tells (Ok (request.WriteWords c)) h = stores_said word c h
     tells (Ok (request.Mask m)) h = masked_said m h
     tells (Ok (request.Exchange x)) h = both_said x h
     tells (Err r) h = ap failed h.0

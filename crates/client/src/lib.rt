@@ -197,7 +197,8 @@ fn shown_by(sent: &[u8]) -> Result<usize, Refusal>
     match judge(sent, false, 65536, 65536, 65536, 65536) {
         Ok(Request::Read(q)) => Ok(q.count as usize),
         Ok(Request::Exchange(x)) => Ok(x.read_count as usize),
-        Ok(Request::Write(_)) => Ok(0),
+        Ok(Request::WriteBits(_)) => Ok(0),
+        Ok(Request::WriteWords(_)) => Ok(0),
         Ok(Request::Mask(_)) => Ok(0),
         Err(_) => Err(Refusal::BadRequest),
     }

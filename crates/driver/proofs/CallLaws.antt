@@ -2,18 +2,21 @@
 -- Assumes nothing.
 use mathlib.Core.Path.{◌≡◌, sym, ap, ◌∙◌}
 use mathlib.Core.List.{List, []}
+use Rattle.std.specs.Prelude.{Err}
 use Prim.Native.Nat.{ℕ, ◌+◌, ◌<◌}
-use Rattle.modbus.specs.Step.{go}
+use Rattle.modbus.specs.Step.{stop, go}
 use Rattle.modbus.specs.Table.{coils, discretes, holdings, inputs}
 use Rattle.modbus.specs.Setup.{Setup, proto, Valid, Roomy}
 use Rattle.modbus.specs.Decode.{unwrap}
 use Rattle.modbus.specs.Drive.{spelled, judge, settle}
 use Rattle.modbus.proofs.StepLaws.{pass, fail, follow, halt}
 use Rattle.modbus.proofs.DriveLaws.{quietly_go, quietly_stop}
-use Rattle.transports.specs.Opened.{opened}
-use Rattle.transports.proofs.AnswerLaws.{opened_none, number_fault}
+use Rattle.transports.specs.Opened.{fault_of}
+use Rattle.transports.specs.declared.Fault.{Fault}
+use Rattle.transports.specs.declared.Fault.TheVariants.{Broken, WrongCheck}
+use Rattle.requests.specs.Judged.{quiet_by}
 use Rattle.driver.specs.Driven.{Call, setup_of, resulting, Leaves, leaving, settled, called}
-use Rattle.driver.specs.Serving.{Sized, handled}
+use Rattle.driver.specs.Serving.{Sized, handled, driven_by}
 
 -- a valid setup's tables count whole
 pub valid_sized : (l : Call) → Valid (setup_of l) → Sized l.tables
@@ -44,11 +47,11 @@ module _ (l : Call) where
 
     module _ (r : Roomy set) where
       -- a frame that is broken, or has a wrong check
-      pub unopened_called : (m : ℕ) → m ≡ opened (unwrap (proto set) shown) → m < 2 → quietly_leaving (m + 5) ≡ called l
+      pub unopened_called : (x : Fault) → unwrap (proto set) shown ≡ stop (fault_of x)
+          → leaving (driven_by (Err (quiet_by (fault_of x)))) l.reply l.tables.coil_bytes l.tables.holding_bytes ≡ called l
       unfolding called judge settle
-      unopened_called m e h =
-          ap quietly_leaving (sym (number_fault m h))
-          ∙ sym (ap (settled l) (pass _ _ _ v ∙ pass _ _ _ r ∙ halt _ _ (quietly_stop _ (opened_none (proto set) shown m e h))))
+      unopened_called Broken e = sym (ap (settled l) (pass _ _ _ v ∙ pass _ _ _ r ∙ halt _ _ (quietly_stop _ e)))
+      unopened_called WrongCheck e = sym (ap (settled l) (pass _ _ _ v ∙ pass _ _ _ r ∙ halt _ _ (quietly_stop _ e)))
 
       pub opened_called : (tag b : List ℕ) → unwrap (proto set) shown ≡ go (record { tag = tag; body = b }) → handled l tag b ≡ called l
       unfolding called judge

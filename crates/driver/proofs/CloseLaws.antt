@@ -7,6 +7,7 @@ use native.Mathlib.Omega.{arith}
 use native.Mathlib.Nat.{zero-add}
 use lib.ListN.{length, take, drop, set}
 use lib.Seq.{sets, sets-eq, length-sets, length-take-le, drop_at, take-append_seam, drop-set-lt}
+use Rattle.std.specs.Prelude.{Option, Some}
 use Rattle.modbus.specs.Frame.{wrap, tag_length, tag_of, start_of, around}
 use Rattle.modbus.specs.Setup.{room_for}
 use Rattle.modbus.specs.declared.ModbusProto.{ModbusProto}
@@ -15,6 +16,13 @@ use Rattle.modbus.proofs.FrameLaws.{length_wrap}
 use Rattle.driver.specs.declared.Driven.{Driven}
 use Rattle.driver.specs.Driven.{Leaves, leaving}
 use Rattle.driver.specs.Serving.{Telling, result_by, Turn, Laid, laying, laid, closing}
+
+-- what stands in an answer
+pub some_pair : {m n : ℕ} {o p : List ℕ} → ◌≡◌ {A = Option ℕ × List ℕ} (Some m, o) (Some n, p) → ◌≡◌ {A = ℕ × List ℕ} (m, o) (n, p)
+some_pair {m} {n} e =
+    let k = ap (λ (x : Option ℕ × List ℕ). x.0) e in
+    let z : m ≡ n = cc in
+    ap₂ (λ (i : ℕ) (l : List ℕ). (i, l)) z (ap (λ (x : Option ℕ × List ℕ). x.1) e)
 
 pub tag_length_law : (p : ModbusProto) (high low : ℕ) → length (tag_of p high low) ≡ tag_length p
 tag_length_law Rtu high low = refl

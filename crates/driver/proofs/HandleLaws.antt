@@ -3,6 +3,7 @@
 use mathlib.Core.Bool.{Bool, true, false}
 use mathlib.Core.Path.{◌≡◌, refl, ap, ◌∙◌}
 use mathlib.Core.List.{List}
+use Rattle.std.specs.Prelude.{Err}
 use Prim.Native.Nat.{ℕ, ◌+◌, ◌≤◌, ◌<◌}
 use native.Mathlib.Omega.{arith}
 use lib.ListN.{length, get_or}
@@ -15,9 +16,8 @@ use Rattle.modbus.specs.Unit.{listed?}
 use Rattle.modbus.specs.declared.ModbusProto.{ModbusProto}
 use Rattle.modbus.specs.declared.ModbusProto.TheVariants.{Rtu, Ascii, TcpUdp}
 use Rattle.tables.specs.Lent.{Lent}
-use Rattle.requests.specs.Judged.{on?, judged}
-use Rattle.requests.specs.declared.Verdict.{Verdict}
-use Rattle.requests.specs.declared.Verdict.TheVariants.{Quiet}
+use Rattle.requests.specs.Judged.{on?, Verdict, judged}
+use Rattle.requests.specs.declared.Refusal.TheVariants.{Foreign}
 use Rattle.driver.specs.declared.Setup.{Setup as Numbers}
 use Rattle.driver.specs.declared.Driven.{Driven}
 use Rattle.driver.specs.Driven.{lent_in, Call, lending, setup_of, leaving}
@@ -34,7 +34,7 @@ start_room TcpUdp reply h = omega arith
 -- what was found of the body: its bytes, whether its unit is listed, the verdict
 module _ (n : Numbers) (list c d h i f reply b : List ℕ) (y : (k : ℕ) → get_or b k 0 < 256) (two : 2 ≤ length b) (sized : Sized (lent_in n c d h i))
     (x : Bool) (e : x ≡ choose (listed? (get_or b 0 0) list) true false)
-    (v : Verdict) (j : (s : Setup) → Counted s n → v ≡ choose (on? x or? (get_or b 0 0 ≟ n.unit)) (judged s x b) (Quiet 4 0)) where
+    (v : Verdict) (j : (s : Setup) → Counted s n → v ≡ choose (on? x or? (get_or b 0 0 ≟ n.unit)) (judged s x b) (Err Foreign)) where
   abbrev lent : Call
   lent = lending n list c d h i f reply
 
@@ -44,7 +44,7 @@ module _ (n : Numbers) (list c d h i f reply b : List ℕ) (y : (k : ℕ) → ge
   abbrev p : ModbusProto
   p = proto_of n.transport
 
-  judges : v ≡ choose (on? x or? (get_or b 0 0 ≟ n.unit)) (judged (setup_of lent) x b) (Quiet 4 0)
+  judges : v ≡ choose (on? x or? (get_or b 0 0 ≟ n.unit)) (judged (setup_of lent) x b) (Err Foreign)
   judges = j (setup_of lent) (refl, refl, refl, refl)
 
   pub body_ready : Ready l b v

@@ -2,7 +2,6 @@ pub mod ReplyLaws
 pub mod TellLaws
 pub mod UnitLaws
 pub mod ReadLaws
-pub mod ServeLaws
 pub mod OpenLaws
 pub mod CloseLaws
 pub mod StoreLaws

@@ -1,5 +1,6 @@
 -- A read carried out: its cells stand behind its head, whichever table they are of; and a read of registers after a write of registers.
 -- Assumes nothing.
+use mathlib.Core.Logic.{by_cases}
 use mathlib.Core.Path.{◌≡◌, refl, sym, ap, ◌∙◌}
 use mathlib.Core.List.{List, [], ◌∷◌}
 use Prim.Native.Nat.{ℕ, ◌+◌, ◌-◌, ◌*◌, ◌≤◌, ◌<◌}
@@ -7,7 +8,8 @@ use native.Mathlib.Omega.{arith}
 use lib.ListN.{length, take, drop, get_or, length-take, length-drop}
 use lib.Seq.{sets, length-sets}
 use denote.Ref.{Bor}
-use Rattle.modbus.specs.Table.{Kind, bit, word, Tab, inputs, kind_of, part}
+use Rattle.modbus.specs.Step.{◌≟◌}
+use Rattle.modbus.specs.Table.{Kind, bit, word, Tab, kind_of, part}
 use Rattle.modbus.specs.Request.{tab_of, octets, shown, most_read}
 use Rattle.modbus.specs.Storage.{registers, register_at, Sound}
 use Rattle.modbus.proofs.StepLaws.{pick_yes, pick_no}
@@ -88,8 +90,8 @@ module _ (h : Bor (List ℕ)) (hn : ℕ) (i : Bor (List ℕ)) (in' reg count : �
       (e ∙ pick_no _ _ _ (λ z. omega arith) ∙ pick_yes _ _ _ refl ∙ pick_yes _ _ _ (rw (size_sound registers i.now in' s) k))
 
 -- what is left of the four
-pub inputs_left : (n : ℕ) → 1 ≤ n → n ≤ 4 → ¬ (n ≡ 1) → ¬ (n ≡ 2) → ¬ (n ≡ 3) → tab_of n ≡ inputs
-inputs_left n h k a b c = let e : n ≡ 4 = omega arith in rw e
+pub registers_left : {C : Type 0} (n : ℕ) → 1 ≤ n → n ≤ 4 → ¬ (n ≡ 1) → ¬ (n ≡ 2) → (n ≡ 3 → C) → (n ≡ 4 → C) → C
+registers_left n h k a b f g = by_cases (n ≟ 3) f (λ c. g (omega arith))
 
 -- the registers as a write left them, behind the head
 pub swap_read : (b l m reply : List ℕ) (start cells : ℕ) (x : Exchange) → Sound registers l cells → x.read_address + x.read_count ≤ cells

@@ -4,6 +4,7 @@ use mathlib.Core.Bool.{Bool, true, false}
 use mathlib.Core.Logic.{◌⊎◌, inl, inr, ⊎_elim, by_cases}
 use mathlib.Core.Path.{◌≡◌, refl, sym, ap, ap₂, subst, ◌∙◌}
 use mathlib.Core.List.{List, [], ◌∷◌}
+use Rattle.std.specs.Prelude.{Option, None, Some, Ok, Err}
 use Prim.Native.Nat.{ℕ, ◌*◌, ◌≤◌, ◌<◌}
 use native.Mathlib.Omega.{arith}
 use lib.ListN.{length, take, drop, get_or, length-take, length-drop}
@@ -13,28 +14,30 @@ use Rattle.modbus.specs.Table.{Kind, bit, word, Tab, coils, discretes, holdings,
 use Rattle.modbus.specs.Request.{reads, mask, code, tab_of, Ask, read, write, writes, masks, swaps, octets, shown, writing, answer, seen, found, apply}
 use Rattle.modbus.specs.Setup.{Setup, proto}
 use Rattle.modbus.specs.Unit.{listed?, Broadcast, broadcast?, Ours}
-use Rattle.modbus.specs.Decode.{Message, asked}
+use Rattle.modbus.specs.Decode.{Message, Silent, read_ignored_quiet, foreign, frame_broken_quiet, frame_check_quiet, wrong_length_quiet, bad_function_quiet, no_room_quiet, bad_setup_quiet, asked}
 use Rattle.modbus.specs.Drive.{Fault, quiet, coded, Result, weigh, from_unit, settle}
 use Rattle.modbus.proofs.StepLaws.{pass, fail, follow, halt, pick_yes, pick_no, picked}
-use Rattle.modbus.proofs.WeighLaws.{Alike, weigh_alike, by_alike}
+use Rattle.modbus.proofs.WeighLaws.{Alike, weigh_coded_alike, by_alike}
 use Rattle.modbus.proofs.BytesLaws.{bytes_by}
 use Rattle.modbus.proofs.RequestLaws.{asked_says}
 use Rattle.modbus.proofs.StorageLaws.{length_part}
 use Rattle.modbus.proofs.AnswerLaws.{length_shown}
 use Rattle.modbus.specs.Storage.{registers, register_at, Sound, storage, store, values}
 use Rattle.tables.specs.Lent.{Lent, table_of, tables_of}
-use Rattle.requests.specs.Judged.{On, on?, refused_by, weighed, kept, kept_by, judged}
+use Rattle.requests.specs.Judged.{On, on?, Verdict, quiet_by, refused_by, code_number, spoken, weighed, kept, kept_by, judged}
 use Rattle.requests.specs.declared.ReadCells.{ReadCells}
 use Rattle.requests.specs.declared.Cells.{Cells}
 use Rattle.requests.specs.declared.Mask.{Mask}
 use Rattle.requests.specs.declared.Exchange.{Exchange}
-use Rattle.requests.specs.declared.Write.TheVariants.{Bits, Words}
-use Rattle.requests.specs.declared.Verdict.{Verdict}
-use Rattle.requests.specs.declared.Verdict.TheVariants.{Read, Written, Masked, Exchanged, Refused, Quiet}
+use Rattle.requests.specs.declared.Request.TheVariants as request
+use Rattle.requests.specs.declared.Code.{Code}
+use Rattle.requests.specs.declared.Code.TheVariants.{IllegalFunction, IllegalDataAddress, IllegalDataValue}
+use Rattle.requests.specs.declared.Refusal.{Refusal}
+use Rattle.requests.specs.declared.Refusal.TheVariants.{Foreign}
 use Rattle.requests.proofs.JudgedLaws.{on, off, tab_of_law}
-use Rattle.requests.proofs.FineLaws.{FineRead, FineWrite, FineMask, FineBoth, Fine, fine}
+use Rattle.requests.proofs.FineLaws.{FineRead, FineWrite, FineMask, FineBoth, Told, Fine, fine}
 use Rattle.driver.specs.Driven.{Call, setup_of, bytes_after, result_of, Leaves, leaving, settled}
-use Rattle.driver.specs.Serving.{Sized, Ready, data_of, masked_by, swapped_by, echoed, done_by, Telling, tells, telling, Turn, turn, serving}
+use Rattle.driver.specs.Serving.{Sized, SaysReady, Ready, data_of, masked_by, swapped_by, echoed, done_by, Telling, tells, telling, Turn, turn, saying, serving}
 use Rattle.driver.proofs.ReadLaws.{octets_most}
 use Rattle.driver.proofs.StoreLaws.{stored_target, stored_other, found_after, echoes, mask_echoes}
 use Rattle.driver.proofs.CloseLaws.{closed}
@@ -47,39 +50,47 @@ read_range discretes = omega arith
 read_range holdings = omega arith
 read_range inputs = omega arith
 
+told_ready : (b : List ℕ) (o : Option Code) → Told b o → 2 ≤ length b → SaysReady b o
+told_ready b None f h = tt
+told_ready b (Some c) f h = (h, f)
+
+said_brief : (b : List ℕ) (o : Option Code) → length (saying b o) ≤ 253
+said_brief b None = omega arith
+said_brief b (Some c) = omega arith
+
 module _ (lent : Call) (x : Bool) (b : List ℕ) where
   pub ready : (v : Verdict) → Fine (setup_of lent) x b v → 2 ≤ length b → Ready lent.tables b v
-  ready (Read q) f h =
+  ready (Ok (request.Read q)) f h =
       let e : tab_of q.function ≡ f.tab = ap tab_of f.function ∙ tab_of_law f.tab in
       let r = read_range f.tab in
-      record { first = rw f.function r.0; last = rw f.function r.1; most = rw e f.most; inside = rw e f.inside; whole = h }
-  ready (Written (Bits c)) f h = record { inside = f.inside; held = f.held; single = f.single; whole = f.whole }
-  ready (Written (Words c)) f h = record { inside = f.inside; held = f.held; single = f.single; whole = f.whole }
-  ready (Masked m) f h = record { inside = f.inside; whole = omega (arith, f.whole) }
-  ready (Exchanged x) f h = record { most = f.most; inside = f.inside; within = f.within; held = omega (arith, f.held) }
-  ready (Refused c) f h = (h, f.1)
-  ready (Quiet o c) f h = tt
+      record { numbered = f.numbered ∙ sym f.function; first = rw f.function r.0; last = rw f.function r.1; most = rw e f.most; inside = rw e f.inside; whole = h }
+  ready (Ok (request.WriteBits c)) f h = record { inside = f.inside; held = f.held; single = f.single; whole = f.whole }
+  ready (Ok (request.WriteWords c)) f h = record { inside = f.inside; held = f.held; single = f.single; whole = f.whole }
+  ready (Ok (request.Mask m)) f h = record { inside = f.inside; whole = omega (arith, f.whole) }
+  ready (Ok (request.Exchange x)) f h = record { most = f.most; inside = f.inside; within = f.within; held = omega (arith, f.held) }
+  ready (Err r) f h = told_ready b (spoken r) f.1 h
 
 shown_length : (k : Kind) (s n : ℕ) (f : ℕ → ℕ) → length (shown k (part f s n)) ≡ octets k n
 shown_length k s n f = length_shown k (part f s n) ∙ ap (octets k) (length_part f s n)
 
 -- and its reply's body fits every frame
 pub brief : (l : Lent) (x : Bool) (b : List ℕ) (v : Verdict) → Ready l b v → length (serving l x b v).body ≤ 253
-brief l x b (Read q) r =
+brief l x b (Ok (request.Read q)) r =
     let t = tab_of q.function in
     omega (arith, octets_most (kind_of t) q.count r.most, shown_length (kind_of t) q.address q.count (tables_of l t))
-brief l true b (Written w) r = omega arith
-brief l false b (Written w) r = simp length-take (omega arith)
-brief l true b (Masked m) r = omega arith
-brief l false b (Masked m) r = simp length-take (omega arith)
-brief l x b (Exchanged y) r =
+brief l true b (Ok (request.WriteBits c)) r = omega arith
+brief l false b (Ok (request.WriteBits c)) r = simp length-take (omega arith)
+brief l true b (Ok (request.WriteWords c)) r = omega arith
+brief l false b (Ok (request.WriteWords c)) r = simp length-take (omega arith)
+brief l true b (Ok (request.Mask m)) r = omega arith
+brief l false b (Ok (request.Mask m)) r = simp length-take (omega arith)
+brief l x b (Ok (request.Exchange y)) r =
     omega (
       arith,
       octets_most word y.read_count r.most,
       shown_length word y.read_address y.read_count (register_at (swapped_by y b l.holding_bytes)),
     )
-brief l x b (Refused c) r = omega arith
-brief l x b (Quiet o c) r = omega arith
+brief l x b (Err y) r = said_brief b (spoken y)
 
 -- ---- whom the unit number means
 
@@ -126,7 +137,7 @@ module _ (lent : Call) (tag b : List ℕ) where
   kept_leaving r = leaving (result_of r) (sets reply 0 r.reply) l.coil_bytes l.holding_bytes
 
   unmeant : (x : Bool) → ¬ (Broadcast set (get_or b 0 0) ⊎ Ours set (get_or b 0 0))
-      → settled lent (from_unit set message) ≡ doing x (Quiet 4 0)
+      → settled lent (from_unit set message) ≡ doing x (Err Foreign)
   unfolding settle
   unmeant x k = ap (settled lent) (fail _ _ _ k)
 
@@ -150,8 +161,20 @@ module _ (lent : Call) (tag b : List ℕ) where
   go_done x a (inl (p, e)) = rw e (ap (leaving_after a) (pick_yes _ _ _ p))
   go_done x a (inr (p, q, e)) = rw e (ap (leaving_after a) (pick_no _ _ _ p))
 
+  -- a fault without a code
+  silent_done : (x : Bool) (o : Silent) → settled lent (stop (quiet o)) ≡ doing x (Err (quiet_by o))
+  unfolding settle
+  silent_done x read_ignored_quiet = refl
+  silent_done x foreign = refl
+  silent_done x frame_broken_quiet = refl
+  silent_done x frame_check_quiet = refl
+  silent_done x wrong_length_quiet = refl
+  silent_done x bad_function_quiet = refl
+  silent_done x no_room_quiet = refl
+  silent_done x bad_setup_quiet = refl
+
   -- a fault with a code
-  coded_done : (x : Bool) (c : ℕ) → Addressed set (get_or b 0 0) x → settled lent (stop (coded message c)) ≡ doing x (refused_by x c)
+  coded_done : (x : Bool) (c : Code) → Addressed set (get_or b 0 0) x → settled lent (stop (coded message (code_number c))) ≡ doing x (Err (refused_by x c))
   unfolding settle
   coded_done x c (inl (p, e)) = rw e (ap kept_leaving (pick_yes _ _ _ p))
   coded_done x c (inr (p, q, e)) = rw e (ap kept_leaving (pick_no _ _ _ p))
@@ -167,14 +190,15 @@ module _ (lent : Call) (tag b : List ℕ) where
     is_broadcast h = ⊎_elim (λ p. p.0) (λ p. absurd (off x p.2 h)) to
 
     -- the same faults in the same order: of the message, and of its body as a verdict
-    alike : Alike (λ (f : Fault) (v : Verdict). settled lent (stop f) ≡ doing x v)
+    alike : Alike (λ (f : Fault) (r : Refusal). settled lent (stop f) ≡ doing x (Err r))
         (weigh quiet (coded message) set (broadcast? set (get_or b 0 0)) b) (weighed set x b)
-    unfolding settle
-    alike = weigh_alike _ _ _ _ _ set _ _ b is_on is_broadcast (λ o. refl) (λ c. coded_done x c to)
+    alike =
+        weigh_coded_alike _ _ _ _ _ set _ _ b is_on is_broadcast (silent_done x) (coded_done x IllegalFunction to)
+        (coded_done x IllegalDataAddress to) (coded_done x IllegalDataValue to)
 
   -- ---- by what the verdict promises
 
-  read_serves : (x : Bool) (q : ReadCells) (f : FineRead set x b q) → served x (read f.tab q.address q.count) ≡ serving l x b (Read q)
+  read_serves : (x : Bool) (q : ReadCells) (f : FineRead set x b q) → served x (read f.tab q.address q.count) ≡ serving l x b (Ok (request.Read q))
   read_serves true q f = absurd (f.own tt)
   read_serves false q f =
       let e : tab_of q.function ≡ f.tab = ap tab_of f.function ∙ tab_of_law f.tab in
@@ -209,7 +233,7 @@ module _ (lent : Call) (tag b : List ℕ) where
     unfolding store
     mask_stored = ap (λ (a : Ask). bytes_after l a holdings) f.asks ∙ pick_yes _ _ _ refl
 
-    mask_serves : served x (asked mask b) ≡ serving l x b (Masked m)
+    mask_serves : served x (asked mask b) ≡ serving l x b (Ok (request.Mask m))
     mask_serves = three (mask_echoed x) (pick_no _ _ _ apart) mask_stored
 
   module _ (sound : Sound registers l.holding_bytes l.holding_cells) (y : Exchange) where
@@ -219,7 +243,7 @@ module _ (lent : Call) (tag b : List ℕ) where
     abbrev replying : List ℕ → List ℕ
     replying vs = get_or b 0 0 ∷ answer asks vs
 
-    both_serves : (x : Bool) (f : FineBoth set x b y) → served x asks ≡ serving l x b (Exchanged y)
+    both_serves : (x : Bool) (f : FineBoth set x b y) → served x asks ≡ serving l x b (Ok (request.Exchange y))
     both_serves true f = absurd (f.own tt)
     both_serves false f =
         let d = drop 11 b in
@@ -232,7 +256,7 @@ module _ (lent : Call) (tag b : List ℕ) where
         three (ap replying g ∙ (rw (n, e, f.numbered))) (pick_no _ _ _ apart) (pick_yes _ _ _ refl ∙ (rw e))
 
   -- outcome, code and the cells written
-  tells_kept : (x : Bool) (a : Ask) → Fine set x b (kept a) → told x a ≡ telling x (kept a)
+  tells_kept : (x : Bool) (a : Ask) → Fine set x b (Ok (kept a)) → told x a ≡ telling x (Ok (kept a))
   tells_kept true (read t s n) f = absurd (f.own tt)
   tells_kept false (read t s n) f = refl
   tells_kept x (write bit a v) f = refl
@@ -245,36 +269,35 @@ module _ (lent : Call) (tag b : List ℕ) where
 
   serves : ((i : ℕ) → get_or b i 0 < 256) → Sized l → (x : Bool) (v : Verdict) → Fine set x b v → (a : Ask) → weighed set x b ≡ go a
       → served x a ≡ serving l x b v
-  serves bytes sized x (Read q) f a e =
+  serves bytes sized x (Ok (request.Read q)) f a e =
       let z : a ≡ read f.tab q.address q.count = let g = f.goes in cc in
       ap (served x) z ∙ read_serves x q f
-  serves bytes sized x (Written (Bits c)) f a e =
+  serves bytes sized x (Ok (request.WriteBits c)) f a e =
       let z : a ≡ asked f.fn b = let g = f.goes in cc in
       ap (served x) z
       ∙ three (write_echoed bytes bit x c f x) (write_target bytes bit x c f) (write_other bytes bit x c f holdings (λ h. apart (sym h)))
-  serves bytes sized x (Written (Words c)) f a e =
+  serves bytes sized x (Ok (request.WriteWords c)) f a e =
       let z : a ≡ asked f.fn b = let g = f.goes in cc in
       ap (served x) z ∙ three (write_echoed bytes word x c f x) (write_other bytes word x c f coils apart) (write_target bytes word x c f)
-  serves bytes sized x (Masked m) f a e =
+  serves bytes sized x (Ok (request.Mask m)) f a e =
       let z : a ≡ asked mask b = let g = f.goes in cc in
       ap (served x) z ∙ mask_serves bytes x m f
-  serves bytes sized x (Exchanged y) f a e =
+  serves bytes sized x (Ok (request.Exchange y)) f a e =
       let z : a ≡ asks (sized holdings) y = let g = f.goes in cc in
       ap (served x) z ∙ both_serves (sized holdings) y x f
-  serves bytes sized x (Refused c) f a e = let g = f.0 in let z : ◌≡◌ {A = ℕ} 0 1 = cc in absurd (omega arith)
-  serves bytes sized x (Quiet o c) f a e = let z : ◌≡◌ {A = ℕ} 0 1 = cc in absurd (omega arith)
+  serves bytes sized x (Err r) f a e = let g = f.0 in let z : ◌≡◌ {A = ℕ} 0 1 = cc in absurd (omega arith)
 
   -- what was judged of a body, by whom its unit number means
   module _ (bytes : (i : ℕ) → get_or b i 0 < 256) (sized : Sized l) (x : Bool) (listed : x ≡ choose (listed? (get_or b 0 0) lent.list) true false) (v : Verdict)
-      (judges : v ≡ choose (on? x or? (get_or b 0 0 ≟ lent.numbers.unit)) (judged set x b) (Quiet 4 0)) where
+      (judges : v ≡ choose (on? x or? (get_or b 0 0 ≟ lent.numbers.unit)) (judged set x b) (Err Foreign)) where
     settles_to : Addressed set (get_or b 0 0) x → settled lent (from_unit set message) ≡ doing x (judged set x b)
     unfolding judged
     settles_to to =
         by_alike _ _ _ (alike x to)
         (λ f u p q r. ap (settled lent) (pass _ _ _ (heard x to) ∙ halt _ _ p) ∙ r ∙ ap (λ w. doing x (kept_by w)) (sym q))
         (λ a p q.
-        let f : Fine set x b (kept a) = fine set x b bytes {r = judged set x b} refl (ap kept_by q) in
-        ap (settled lent) (pass _ _ _ (heard x to) ∙ follow _ _ p) ∙ go_done x a to ∙ ap₂ done (tells_kept x a f) (serves bytes sized x (kept a) f a q)
+        let f : Fine set x b (Ok (kept a)) = fine set x b bytes {r = judged set x b} refl (ap kept_by q) in
+        ap (settled lent) (pass _ _ _ (heard x to) ∙ follow _ _ p) ∙ go_done x a to ∙ ap₂ done (tells_kept x a f) (serves bytes sized x (Ok (kept a)) f a q)
         ∙ ap (λ w. doing x (kept_by w)) (sym q))
 
     pub settles : doing x v ≡ settled lent (from_unit set message)

@@ -1,6 +1,6 @@
 -- A verdict as it is carried out, before its reply is put into a frame: for the contracts of private functions.
 -- Assumes nothing.
-use Rattle.std.specs.Prelude.{Bool, true, false, ◌≡◌, List, [], ◌∷◌, ℕ, zero, suc, ◌+◌, ◌*◌, ◌/◌, ◌%◌, ◌≤◌, length, take, drop, get_or}
+use Rattle.std.specs.Prelude.{Bool, true, false, ◌≡◌, List, [], ◌∷◌, Option, None, Some, Result, Ok, Err, ℕ, zero, suc, ◌+◌, ◌*◌, ◌/◌, ◌%◌, ◌≤◌, length, take, drop, get_or}
 use Rattle.std.proofs.lemmas.List.Edits.{sets}
 use Rattle.modbus.specs.Table.{Kind, bit, word, Tab, coils, discretes, holdings, inputs, kind_of, target, Range, part}
 use Rattle.modbus.specs.Request.{tab_of, octets, masked, shown, exception, most_read}
@@ -14,10 +14,10 @@ use Rattle.requests.specs.declared.ReadCells.{ReadCells}
 use Rattle.requests.specs.declared.Cells.{Cells}
 use Rattle.requests.specs.declared.Mask.{Mask}
 use Rattle.requests.specs.declared.Exchange.{Exchange}
-use Rattle.requests.specs.declared.Write.{Write}
-use Rattle.requests.specs.declared.Write.TheVariants.{Bits, Words}
-use Rattle.requests.specs.declared.Verdict.{Verdict}
-use Rattle.requests.specs.declared.Verdict.TheVariants.{Read, Written, Masked, Exchanged, Refused, Quiet}
+use Rattle.requests.specs.declared.Request.TheVariants as request
+use Rattle.requests.specs.declared.Code.{Code}
+use Rattle.requests.specs.declared.Refusal.{Refusal}
+use Rattle.requests.specs.Judged.{Verdict, refusal_paper, code_number, spoken}
 use Rattle.driver.specs.declared.Setup.{Setup as Numbers}
 use Rattle.driver.specs.declared.Driven.{Driven}
 use Rattle.driver.specs.Driven.{Call, setup_of, making, resulting, Leaves, settled}
@@ -39,6 +39,7 @@ put_at start reply l = (length l, sets reply start l)
 -- ---- what a verdict needs: its cells inside the tables, its data in the body
 
 pub record ReadReady (l : Lent) (b : List ℕ) (q : ReadCells) : Type 0 where
+  pub numbered : get_or b 1 0 ≡ q.function
   pub first : 1 ≤ q.function
   pub last : q.function ≤ 4
   pub most : q.count ≤ most_read (kind_of (tab_of q.function))
@@ -61,14 +62,17 @@ pub record BothReady (l : Lent) (b : List ℕ) (x : Exchange) : Type 0 where
   pub within : x.write_address + x.write_count ≤ l.holding_cells
   pub held : 11 + 2 * x.write_count ≤ length b
 
+abbrev pub SaysReady : List ℕ → Option Code → Type 0
+SaysReady b None = Unit {0}
+SaysReady b (Some c) = (2 ≤ length b) × (get_or b 1 0 ≤ 127)
+
 abbrev pub Ready : Lent → List ℕ → Verdict → Type 0
-Ready l b (Read q) = ReadReady l b q
-Ready l b (Written (Bits c)) = WriteReady bit l b c
-Ready l b (Written (Words c)) = WriteReady word l b c
-Ready l b (Masked m) = MaskReady l b m
-Ready l b (Exchanged x) = BothReady l b x
-Ready l b (Refused c) = (2 ≤ length b) × (get_or b 1 0 ≤ 127)
-Ready l b (Quiet o c) = Unit {0}
+Ready l b (Ok (request.Read q)) = ReadReady l b q
+Ready l b (Ok (request.WriteBits c)) = WriteReady bit l b c
+Ready l b (Ok (request.WriteWords c)) = WriteReady word l b c
+Ready l b (Ok (request.Mask m)) = MaskReady l b m
+Ready l b (Ok (request.Exchange x)) = BothReady l b x
+Ready l b (Err r) = SaysReady b (spoken r)
 
 -- ---- what it tells: outcome, code and the cells that it writes
 
@@ -88,13 +92,12 @@ abbrev pub run : Tab → ℕ → ℕ → List Range
 run t first count = record { tab = t; first = first; count = count } ∷ []
 
 abbrev pub telling : Bool → Verdict → Telling
-telling broadcast (Read q) = tells 0 0 []
-telling broadcast (Written (Bits c)) = tells (done_by broadcast) 0 (run coils c.address c.count)
-telling broadcast (Written (Words c)) = tells (done_by broadcast) 0 (run holdings c.address c.count)
-telling broadcast (Masked m) = tells (done_by broadcast) 0 (run holdings m.address 1)
-telling broadcast (Exchanged x) = tells 0 0 (run holdings x.write_address x.write_count)
-telling broadcast (Refused c) = tells 2 c []
-telling broadcast (Quiet o c) = tells o c []
+telling broadcast (Ok (request.Read q)) = tells 0 0 []
+telling broadcast (Ok (request.WriteBits c)) = tells (done_by broadcast) 0 (run coils c.address c.count)
+telling broadcast (Ok (request.WriteWords c)) = tells (done_by broadcast) 0 (run holdings c.address c.count)
+telling broadcast (Ok (request.Mask m)) = tells (done_by broadcast) 0 (run holdings m.address 1)
+telling broadcast (Ok (request.Exchange x)) = tells 0 0 (run holdings x.write_address x.write_count)
+telling broadcast (Err r) = tells (refusal_paper r).0 (refusal_paper r).2 []
 
 -- the result, once the length of the reply is known
 abbrev pub result_by : Telling → ℕ → Driven
@@ -115,17 +118,6 @@ read_body l t b address count =
 -- the values of a write stand in the body
 abbrev pub data_of : Kind → List ℕ → Cells → List ℕ
 data_of k b c = values k c.count (take (octets k c.count) (drop c.at b))
-
-abbrev pub coils_by : Write → List ℕ → List ℕ → List ℕ
-coils_by (Bits c) b l = store packed l c.address (data_of bit b c)
-coils_by (Words c) b l = l
-
-abbrev pub holdings_by : Write → List ℕ → List ℕ → List ℕ
-holdings_by (Bits c) b l = l
-holdings_by (Words c) b l = store registers l c.address (data_of word b c)
-
-abbrev pub stored_by : Write → List ℕ → List ℕ → List ℕ → List ℕ × List ℕ
-stored_by w b c h = (coils_by w b c, holdings_by w b h)
 
 -- a register by its masks
 abbrev pub masked_by : Mask → List ℕ → List ℕ
@@ -153,13 +145,19 @@ pub record Turn : Type 0 where
 abbrev pub turn : List ℕ → List ℕ → List ℕ → Turn
 turn b c h = record { body = b; coil_bytes = c; holding_bytes = h }
 
+abbrev pub saying : List ℕ → Option Code → List ℕ
+saying b None = []
+saying b (Some c) = get_or b 0 0 ∷ exception (get_or b 1 0) (code_number c)
+
 abbrev pub serving : Lent → Bool → List ℕ → Verdict → Turn
-serving l broadcast b (Read q) = turn (read_body l (tab_of q.function) b q.address q.count) l.coil_bytes l.holding_bytes
-serving l broadcast b (Written w) = turn (echoed broadcast 6 b) (coils_by w b l.coil_bytes) (holdings_by w b l.holding_bytes)
-serving l broadcast b (Masked m) = turn (echoed broadcast 8 b) l.coil_bytes (masked_by m l.holding_bytes)
-serving l broadcast b (Exchanged x) = turn (swap_body x b l.holding_bytes) l.coil_bytes (swapped_by x b l.holding_bytes)
-serving l broadcast b (Refused c) = turn (get_or b 0 0 ∷ exception (get_or b 1 0) c) l.coil_bytes l.holding_bytes
-serving l broadcast b (Quiet o c) = turn [] l.coil_bytes l.holding_bytes
+serving l broadcast b (Ok (request.Read q)) = turn (read_body l (tab_of q.function) b q.address q.count) l.coil_bytes l.holding_bytes
+serving l broadcast b (Ok (request.WriteBits c)) =
+    turn (echoed broadcast 6 b) (store packed l.coil_bytes c.address (data_of bit b c)) l.holding_bytes
+serving l broadcast b (Ok (request.WriteWords c)) =
+    turn (echoed broadcast 6 b) l.coil_bytes (store registers l.holding_bytes c.address (data_of word b c))
+serving l broadcast b (Ok (request.Mask m)) = turn (echoed broadcast 8 b) l.coil_bytes (masked_by m l.holding_bytes)
+serving l broadcast b (Ok (request.Exchange x)) = turn (swap_body x b l.holding_bytes) l.coil_bytes (swapped_by x b l.holding_bytes)
+serving l broadcast b (Err r) = turn (saying b (spoken r)) l.coil_bytes l.holding_bytes
 
 -- the reply's body laid into the reply from its start on, and its length
 pub record Laid : Type 0 where
@@ -196,3 +194,8 @@ Good n c d h i = (n.transport ≤ 2) × (n.hex ≤ 1) × Few n × Long n c d h i
 -- a call whose frame is taken apart to this body
 abbrev pub handled : Call → List ℕ → List ℕ → Leaves
 handled l tag b = settled l (from_unit (setup_of l) (record { tag = tag; body = b }))
+
+-- a refusal before there is a body tells its outcome and code, and nothing is sent
+abbrev pub driven_by : Result Driven Refusal → Driven
+driven_by (Ok d) = d
+driven_by (Err r) = resulting (refusal_paper r).0 (refusal_paper r).2 0 []

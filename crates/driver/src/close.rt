@@ -15,5 +15,5 @@ pub(crate) fn close(transport: u8, n: usize, frame: &[u8], reply: &mut [u8]) -> 
     if n == 0 {
         return 0;
     }
-    seal(transport, frame[0], frame[1], n as u8, reply)
+    seal(transport, frame[0], frame[1], n as u8, reply).unwrap()
 }

@@ -1,15 +1,15 @@
 // The second stage: what a body asks of whom, and whether it is to be served. No table is lent here, and the address rule stands nowhere else.
-ghost use Rattle.std.specs.Prelude.{true, false, ◌≡◌, ◌≤◌, length, get_or};
+ghost use Rattle.std.specs.Prelude.{true, false, ◌≡◌, ◌≤◌, length, get_or, Err};
 ghost use Rattle.modbus.specs.Step.{choose, ◌≟◌, ◌or?◌};
 ghost use Rattle.modbus.specs.Setup.{Setup as Station};
 ghost use Rattle.modbus.specs.Unit.{listed?};
 ghost use Rattle.requests.specs.Judged.{on?, judged};
-ghost use Rattle.requests.specs.declared.Verdict.TheVariants as verdict;
+ghost use Rattle.requests.specs.declared.Refusal.TheVariants.{Foreign};
 ghost use Rattle.driver.specs.Serving.{Counted};
 
 use crate::Setup;
 use octets::contains;
-use requests::Verdict;
+use requests::{Refusal, Request};
 
 // Whether a unit number is a broadcast number. A list of one is asked most often, and costs less so.
 pub(crate) fn listed(list: &[u8], unit: u8) -> bool
@@ -24,25 +24,12 @@ pub(crate) fn listed(list: &[u8], unit: u8) -> bool
     true
 }
 
-// Whether a unit number means us: a broadcast number does, whatever our own.
-fn is_for_us(broadcast: bool, to: u8, unit: u8) -> bool
-    ensures { result ≡ choose (on? broadcast or? (to ≟ unit)) true false }
-{
-    if broadcast {
-        return true;
-    }
-    if to != unit {
-        return false;
-    }
-    true
-}
-
-pub(crate) fn judge(setup: Setup, broadcast: bool, body: &[u8]) -> Verdict
+pub(crate) fn judge(setup: Setup, broadcast: bool, body: &[u8]) -> Result<Request, Refusal>
     requires { 1 ≤ length body.now }
-    ensures { (s : Station) → Counted s setup → result ≡ choose (on? broadcast or? (get_or body.now 0 0 ≟ setup.unit)) (judged s broadcast body.now) (verdict.Quiet 4 0) }
+    ensures { (s : Station) → Counted s setup → result ≡ choose (on? broadcast or? (get_or body.now 0 0 ≟ setup.unit)) (judged s broadcast body.now) (Err Foreign) }
 {
-    if !is_for_us(broadcast, body[0], setup.unit) {
-        return Verdict::Quiet(4, 0);
+    if !broadcast && body[0] != setup.unit {
+        return Err(Refusal::Foreign);
     }
     requests::judge(
         body,

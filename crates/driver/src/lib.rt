@@ -12,14 +12,17 @@ ghost use Rattle.modbus.specs.Paper.{proto_of};
 ghost use Rattle.modbus.specs.Frame.{tag_of, start_of};
 ghost use Rattle.modbus.specs.Setup.{room_for};
 ghost use Rattle.driver.specs.Driven.{lent_in, lending, leaving, called};
-ghost use Rattle.driver.specs.Serving.{Sized, handled};
+ghost use Rattle.requests.specs.Judged.{quiet_by};
+ghost use Rattle.transports.specs.Opened.{fault_of};
+ghost use Rattle.driver.specs.Serving.{Sized, handled, driven_by};
 
 use close::close;
 use judge::{judge, listed};
-use open::{bad_setup, no_room};
+use open::{check_room, check_setup};
+use requests::Refusal;
 use serve::serve;
-use tell::{result, tell};
-use transports::{body_source, open, start_of};
+use tell::{refused, result};
+use transports::{Fault, body_of, start_of};
 
 // The setup's numbers: the transport (0 RTU, 1 ASCII, 2 TCP), our unit number on it, the switch for digits a-f of ASCII frames (0 strict, 1
 // lenient), and how many cells each table is said to have.
@@ -70,12 +73,62 @@ fn handle(
 {
     let broadcast = listed(list, body[0]);
     let verdict = judge(setup, broadcast, body);
-    let told = tell(verdict, broadcast);
-    let n = serve(
+    let (told, n) = serve(
         verdict, broadcast, setup, body, coils, discretes, holdings, inputs, reply, start,
     );
     let sent = close(setup.transport, n, frame, reply);
     result(told, sent)
+}
+
+// Why a frame has no body.
+fn unopened(fault: Fault) -> Refusal
+    ensures { result ≡ quiet_by (fault_of fault) }
+{
+    match fault {
+        Fault::Broken => Refusal::FrameBroken,
+        Fault::WrongCheck => Refusal::FrameCheck,
+    }
+}
+
+// From the setup to the body. What is refused here leaves all that is lent as it was.
+fn run(
+    setup: Setup,
+    list: &[u8],
+    coils: &mut [u8],
+    discretes: &[u8],
+    holdings: &mut [u8],
+    inputs: &[u8],
+    frame: &[u8],
+    reply: &mut [u8],
+) -> Result<Driven, Refusal>
+    ensures { leaving (driven_by result) reply.new coils.new holdings.new ≡ called (lending setup list.now
+        coils.old discretes.now holdings.old inputs.now frame.now reply.old) }
+{
+    check_setup(
+        setup,
+        coils.len(),
+        discretes.len(),
+        holdings.len(),
+        inputs.len(),
+    )?;
+    check_room(setup.transport, reply.len())?;
+    let mut raw = [0u8; 256];
+    let body = match body_of(setup.transport, setup.hex, frame, &mut raw) {
+        Ok(body) => body,
+        Err(fault) => return Err(unopened(fault)),
+    };
+    Ok(handle(
+        setup,
+        list,
+        body,
+        coils,
+        discretes,
+        holdings,
+        inputs,
+        frame,
+        reply,
+        start_of(setup.transport),
+    ))
 }
 
 pub fn drive(
@@ -91,36 +144,11 @@ pub fn drive(
     ensures { leaving result reply.new coils.new holdings.new ≡ called (lending setup list.now
         coils.old discretes.now holdings.old inputs.now frame.now reply.old) }
 {
-    if bad_setup(
-        setup,
-        coils.len(),
-        discretes.len(),
-        holdings.len(),
-        inputs.len(),
-    ) {
-        return result(10, 0);
+    let driven = run(
+        setup, list, coils, discretes, holdings, inputs, frame, reply,
+    );
+    match driven {
+        Ok(driven) => driven,
+        Err(refusal) => result(refused(refusal), 0),
     }
-    if no_room(setup.transport, reply.len()) {
-        return result(9, 0);
-    }
-    let mut raw = [0u8; 256];
-    let n = open(setup.transport, setup.hex, frame, &mut raw);
-    if n < 2 {
-        return result(n as u64 + 5, 0);
-    }
-    let start = start_of(setup.transport);
-    let end = start + n;
-    let source = body_source(setup.transport, &raw, frame);
-    handle(
-        setup,
-        list,
-        &source[start..end],
-        coils,
-        discretes,
-        holdings,
-        inputs,
-        frame,
-        reply,
-        start,
-    )
 }

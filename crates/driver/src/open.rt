@@ -1,84 +1,63 @@
 // The first stage, before a frame is opened: whether the setup is good, and whether there is room for the reply.
-ghost use Rattle.std.specs.Prelude.{true, false, ◌≡◌, ◌≤◌};
+ghost use Rattle.std.specs.Prelude.{◌≡◌, ◌≤◌, MatchResult, IsTrue, ◌↔◌};
 ghost use Rattle.modbus.specs.Paper.{proto_of};
 ghost use Rattle.modbus.specs.Setup.{room_for};
+ghost use Rattle.requests.specs.declared.Refusal.TheVariants.{FrameBroken, NoRoom, BadSetup};
 ghost use Rattle.driver.specs.Serving.{Few, Long, Good};
 
 use crate::Setup;
+use requests::Refusal;
+use transports::Fault;
 
-// Whether a table is said to have too many cells.
-fn many_cells(setup: Setup) -> bool
-    ensures { (result ≡ true → ¬ Few setup) × (result ≡ false → Few setup) }
+// Whether no table is said to have too many cells.
+fn few_cells(setup: Setup) -> bool
+    ensures { IsTrue result ↔ Few setup }
 {
-    if 65536 < setup.coil_cells {
-        return true;
-    }
-    if 65536 < setup.discrete_cells {
-        return true;
-    }
-    if 65536 < setup.holding_cells {
-        return true;
-    }
-    if 65536 < setup.input_cells {
-        return true;
-    }
-    false
+    setup.coil_cells <= 65536
+        && setup.discrete_cells <= 65536
+        && setup.holding_cells <= 65536
+        && setup.input_cells <= 65536
 }
 
-// Whether a table's slice is too short for its cells.
-fn few_bytes(setup: Setup, coils: usize, discretes: usize, holdings: usize, inputs: usize) -> bool
+// Whether each table's slice is long enough for its cells.
+fn long_slices(setup: Setup, coils: usize, discretes: usize, holdings: usize, inputs: usize) -> bool
     requires { Few setup }
-    ensures { (result ≡ true → ¬ Long setup coils discretes holdings inputs) × (result ≡ false → Long setup coils discretes holdings inputs) }
+    ensures { IsTrue result ↔ Long setup coils discretes holdings inputs }
 {
-    if coils < (setup.coil_cells + 7) / 8 {
-        return true;
-    }
-    if discretes < (setup.discrete_cells + 7) / 8 {
-        return true;
-    }
-    if holdings < 2 * setup.holding_cells {
-        return true;
-    }
-    if inputs < 2 * setup.input_cells {
-        return true;
-    }
-    false
+    (setup.coil_cells + 7) / 8 <= coils
+        && (setup.discrete_cells + 7) / 8 <= discretes
+        && 2 * setup.holding_cells <= holdings
+        && 2 * setup.input_cells <= inputs
 }
 
-// Whether BadSetup applies to these numbers and to slices of these lengths.
-pub(crate) fn bad_setup(
+// BadSetup, by these numbers and by slices of these lengths.
+pub(crate) fn check_setup(
     setup: Setup,
     coils: usize,
     discretes: usize,
     holdings: usize,
     inputs: usize,
-) -> bool
-    ensures { (result ≡ true → ¬ Good setup coils discretes holdings inputs) × (result ≡ false → Good setup coils discretes holdings inputs) }
+) -> Result<(), Refusal>
+    ensures { MatchResult result (λ done. Good setup coils discretes holdings inputs) (λ refusal. (refusal ≡ BadSetup) × (¬ Good setup coils discretes holdings inputs)) }
 {
-    if 2 < setup.transport {
-        return true;
+    if 2 < setup.transport || 1 < setup.hex || !few_cells(setup) {
+        return Err(Refusal::BadSetup);
     }
-    if 1 < setup.hex {
-        return true;
+    if !long_slices(setup, coils, discretes, holdings, inputs) {
+        return Err(Refusal::BadSetup);
     }
-    if many_cells(setup) {
-        return true;
-    }
-    few_bytes(setup, coils, discretes, holdings, inputs)
+    Ok(())
 }
 
-// Whether a reply buffer is too short. One that serves every transport is asked first.
-pub(crate) fn no_room(transport: u8, room: usize) -> bool
-    ensures { (result ≡ true → ¬ (room_for (proto_of transport) ≤ room)) × (result ≡ false → room_for (proto_of transport) ≤ room) }
+// NoRoom, by a reply buffer's length. One that serves every transport is asked first.
+pub(crate) fn check_room(transport: u8, room: usize) -> Result<(), Refusal>
+    ensures { MatchResult result (λ done. room_for (proto_of transport) ≤ room) (λ refusal. (refusal ≡ NoRoom) × (¬ (room_for (proto_of transport) ≤ room))) }
 {
     if 511 <= room {
-        return false;
+        return Ok(());
     }
-    if transport == 1 {
-        return true;
+    if transport == 1 || room < 260 {
+        return Err(Refusal::NoRoom);
     }
-    if room < 260 {
-        return true;
-    }
-    false
+    Ok(())
 }

@@ -3,29 +3,33 @@
 ghost use Rattle.std.specs.Prelude.{◌≡◌, List, [], ◌∷◌, ℕ, ◌+◌, ◌*◌, ◌/◌, ◌≤◌, length, take, get_or};
 ghost use Rattle.std.proofs.lemmas.List.Edits.{sets};
 ghost use Rattle.modbus.specs.Table.{bit, word};
-ghost use Rattle.modbus.specs.Request.{tab_of, exception};
+ghost use Rattle.modbus.specs.Request.{tab_of};
 ghost use Rattle.modbus.specs.Storage.{Sound, packed, registers, store};
-ghost use Rattle.requests.specs.declared.Verdict.TheVariants as verdict;
+ghost use Rattle.requests.specs.Judged.{spoken};
 ghost use Rattle.driver.specs.Driven.{lent_in};
-ghost use Rattle.driver.specs.Serving.{Sized, put_at, ReadReady, Ready, read_body, data_of, stored_by, masked_by, swapped_by, swap_body, echoed, serving, laying, laid};
+ghost use Rattle.driver.specs.Serving.{Sized, put_at, ReadReady, SaysReady, Ready, telling, result_by, unpacked, read_body, data_of, masked_by, swapped_by, swap_body, saying, echoed, serving, laying, laid};
 
 use crate::Setup;
+use crate::tell::{pack, refused, wrote};
 use octets::word;
-use requests::{Cells, Exchange, Mask, ReadCells, Verdict, Write};
+use requests::{Cells, Exchange, Mask, ReadCells, Refusal, Request};
 use response::extend;
 use tables::coils::{get_coils_as_u8, get_discretes_as_u8, set_coils_from_u8};
 use tables::registers::{read_registers, set_holding, set_holdings_from_u8};
 
-// An exception: the function's number with its highest bit set, and a code.
-fn refuse(body: &[u8], code: u8, reply: &mut [u8], start: usize) -> usize
-    requires { (2 ≤ length body.now) × (get_or body.now 1 0 ≤ 127) × (start + 3 ≤ length reply.old) }
-    ensures { (result, reply.new) ≡ put_at start reply.old (get_or body.now 0 0 ∷ exception (get_or body.now 1 0) code) }
+// An exception: the function's number with its highest bit set, and a code. All other refusals are silent.
+fn say(refusal: Refusal, body: &[u8], reply: &mut [u8], start: usize) -> usize
+    requires { SaysReady body.now (spoken refusal) × (start + 3 ≤ length reply.old) }
+    ensures { (result, reply.new) ≡ put_at start reply.old (saying body.now (spoken refusal)) }
 {
+    let Refusal::Exception(code) = refusal else {
+        return 0;
+    };
     let unit = body[0];
     let function = body[1];
     reply[start] = unit;
     reply[start + 1] = function + 128;
-    reply[start + 2] = code;
+    reply[start + 2] = u8::from(code);
     3
 }
 
@@ -77,52 +81,44 @@ fn read<'a>(
     ensures { (result, reply.new) ≡ put_at start reply.old (read_body (lent_in setup coils.now discretes.now holdings.now inputs.now) (tab_of q.function) body.now q.address q.count) }
 {
     let at = start + 3;
-    if q.function == 1 {
-        let n = head(body, (q.count as usize + 7) / 8, reply, start);
-        get_coils_as_u8(coils, setup.coil_cells, q.address, q.count, reply, at);
-        return n;
+    match body[1] {
+        1 => {
+            let n = head(body, (q.count as usize + 7) / 8, reply, start);
+            get_coils_as_u8(coils, setup.coil_cells, q.address, q.count, reply, at);
+            n
+        }
+        2 => {
+            let n = head(body, (q.count as usize + 7) / 8, reply, start);
+            get_discretes_as_u8(
+                discretes,
+                setup.discrete_cells,
+                q.address,
+                q.count,
+                reply,
+                at,
+            );
+            n
+        }
+        _ => {
+            let part = read_registers(
+                holdings,
+                setup.holding_cells,
+                inputs,
+                setup.input_cells,
+                body[1],
+                q.address,
+                q.count,
+            );
+            read_words(body, q.count, part, reply, start)
+        }
     }
-    if q.function == 2 {
-        let n = head(body, (q.count as usize + 7) / 8, reply, start);
-        get_discretes_as_u8(
-            discretes,
-            setup.discrete_cells,
-            q.address,
-            q.count,
-            reply,
-            at,
-        );
-        return n;
-    }
-    if q.function == 3 {
-        let part = read_registers(
-            holdings,
-            setup.holding_cells,
-            inputs,
-            setup.input_cells,
-            3,
-            q.address,
-            q.count,
-        );
-        return read_words(body, q.count, part, reply, start);
-    }
-    let part = read_registers(
-        holdings,
-        setup.holding_cells,
-        inputs,
-        setup.input_cells,
-        4,
-        q.address,
-        q.count,
-    );
-    read_words(body, q.count, part, reply, start)
 }
 
 fn write_bits(c: Cells, cells: usize, body: &[u8], coils: &mut [u8])
     requires { (c.address + c.count ≤ cells) × (c.at + (c.count + 7) / 8 ≤ length body.now) × Sound packed coils.old cells }
     ensures { coils.new ≡ store packed coils.old c.address (data_of bit body.now c) }
 {
-    let at = c.at;
+    let at = c.at as usize;
     let end = at + (c.count as usize + 7) / 8;
     set_coils_from_u8(coils, cells, c.address, c.count, &body[at..end]);
 }
@@ -132,24 +128,13 @@ fn write_words(c: Cells, cells: usize, body: &[u8], holdings: &mut [u8])
     requires { (c.address + c.count ≤ cells) × (c.at + 2 * c.count ≤ length body.now) × (c.at ≡ 4 → c.count ≡ 1) × Sound registers holdings.old cells }
     ensures { holdings.new ≡ store registers holdings.old c.address (data_of word body.now c) }
 {
-    let at = c.at;
+    let at = c.at as usize;
     if at == 4 {
         set_holding(holdings, cells, c.address, word(body, 4));
         return;
     }
     let end = at + 2 * (c.count as usize);
     set_holdings_from_u8(holdings, cells, c.address, &body[at..end]);
-}
-
-fn write(w: Write, setup: Setup, body: &[u8], coils: &mut [u8], holdings: &mut [u8])
-    requires by_index { (d i : List ℕ) → Ready (lent_in setup coils.old d holdings.old i) body.now (verdict.Written w) }
-    requires sound { Sound packed coils.old setup.coil_cells × Sound registers holdings.old setup.holding_cells }
-    ensures { (coils.new, holdings.new) ≡ stored_by w body.now coils.old holdings.old }
-{
-    match w {
-        Write::Bits(c) => write_bits(c, setup.coil_cells, body, coils),
-        Write::Words(c) => write_words(c, setup.holding_cells, body, holdings),
-    }
 }
 
 // A single register changes where its AND mask has zeros, to what the OR mask has there.
@@ -192,9 +177,9 @@ fn written(broadcast: bool, body: &[u8], n: usize, reply: &mut [u8], start: usiz
     echo(body, n, reply, start)
 }
 
-// Answers the length of the reply's body, 0 where nothing is sent.
+// Answers what is told, and the length of the reply's body, 0 where nothing is sent. A write and read tells what it writes.
 pub(crate) fn serve(
-    v: Verdict,
+    v: Result<Request, Refusal>,
     broadcast: bool,
     setup: Setup,
     body: &[u8],
@@ -204,26 +189,42 @@ pub(crate) fn serve(
     inputs: &[u8],
     reply: &mut [u8],
     start: usize,
-) -> usize
+) -> (u64, usize)
     requires ready { Ready (lent_in setup coils.old discretes.now holdings.old inputs.now) body.now v × (start + 253 ≤ length reply.old) }
     requires sized { Sized (lent_in setup coils.old discretes.now holdings.old inputs.now) }
-    ensures { laying result reply.new coils.new holdings.new ≡ laid start reply.old
+    ensures told { (n : ℕ) → unpacked result.0 n ≡ result_by (telling broadcast v) n }
+    ensures laid { laying result.1 reply.new coils.new holdings.new ≡ laid start reply.old
         (serving (lent_in setup coils.old discretes.now holdings.old inputs.now) broadcast body.now v) }
 {
     match v {
-        Verdict::Read(q) => read(
-            q, setup, body, coils, discretes, holdings, inputs, reply, start,
-        ),
-        Verdict::Written(w) => {
-            write(w, setup, body, coils, holdings);
-            written(broadcast, body, 6, reply, start)
+        Ok(Request::Read(q)) => {
+            let n = read(
+                q, setup, body, coils, discretes, holdings, inputs, reply, start,
+            );
+            (0, n)
         }
-        Verdict::Masked(m) => {
+        Ok(Request::WriteBits(c)) => {
+            write_bits(c, setup.coil_cells, body, coils);
+            let n = written(broadcast, body, 6, reply, start);
+            (wrote(broadcast, 1, c.address, c.count), n)
+        }
+        Ok(Request::WriteWords(c)) => {
+            write_words(c, setup.holding_cells, body, holdings);
+            let n = written(broadcast, body, 6, reply, start);
+            (wrote(broadcast, 3, c.address, c.count), n)
+        }
+        Ok(Request::Mask(m)) => {
             write_mask(m, setup.holding_cells, holdings);
-            written(broadcast, body, 8, reply, start)
+            let n = written(broadcast, body, 8, reply, start);
+            (wrote(broadcast, 3, m.address, 1), n)
         }
-        Verdict::Exchanged(x) => exchange(x, setup.holding_cells, body, holdings, reply, start),
-        Verdict::Refused(code) => refuse(body, code, reply, start),
-        Verdict::Quiet(_, _) => 0,
+        Ok(Request::Exchange(x)) => {
+            let n = exchange(x, setup.holding_cells, body, holdings, reply, start);
+            (pack(0, 0, 3, x.write_address, x.write_count), n)
+        }
+        Err(refusal) => {
+            let n = say(refusal, body, reply, start);
+            (refused(refusal), n)
+        }
     }
 }

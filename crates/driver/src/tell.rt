@@ -1,22 +1,23 @@
 // What a verdict comes to: outcome, code and the cells that it writes. These are known before it is carried out. They go past the stages in one
 // number, of which the result is made at the end: as six fields they would be copied from stage to stage.
 ghost use Rattle.std.specs.Prelude.{◌≡◌, ℕ};
+ghost use Rattle.requests.specs.Judged.{refusal_paper};
 ghost use Rattle.driver.specs.Driven.{making};
-ghost use Rattle.driver.specs.Serving.{done_by, unpacked, telling, result_by};
+ghost use Rattle.driver.specs.Serving.{done_by, unpacked};
 
 use crate::Driven;
-use requests::{Verdict, Write};
+use requests::Refusal;
 
 // As the second half of the record has them, lowest byte first: outcome, code, table, a byte of 0, the first cell in two, how many in two.
-fn pack(outcome: u8, code: u8, table: u8, first: u16, count: u16) -> u64
+pub(crate) fn pack(outcome: u8, code: u8, table: u8, first: u16, count: u16) -> u64
     ensures { (n : ℕ) → unpacked result n ≡ making n outcome code table first count }
 {
     let low = outcome as u64 + 256 * (code as u64) + 65536 * (table as u64);
     low + 4294967296 * (first as u64) + 281474976710656 * (count as u64)
 }
 
-// A write, to a broadcast number or to our own.
-fn wrote(broadcast: bool, table: u8, first: u16, count: u16) -> u64
+// A write, to a broadcast number or to our own. A table has the number of the function that reads it.
+pub(crate) fn wrote(broadcast: bool, table: u8, first: u16, count: u16) -> u64
     ensures { (n : ℕ) → unpacked result n ≡ making n (done_by broadcast) 0 table first count }
 {
     if broadcast {
@@ -25,20 +26,21 @@ fn wrote(broadcast: bool, table: u8, first: u16, count: u16) -> u64
     pack(0, 0, table, first, count)
 }
 
-// A table has the number of the function that reads it. A write and read names what it writes.
-pub(crate) fn tell(v: Verdict, broadcast: bool) -> u64
-    ensures { (n : ℕ) → unpacked result n ≡ result_by (telling broadcast v) n }
+// What is not served, by document 01's outcomes and codes.
+pub(crate) fn refused(refusal: Refusal) -> u64
+    ensures { (n : ℕ) → unpacked result n ≡ making n (refusal_paper refusal).0 (refusal_paper refusal).2 0 0 0 }
 {
-    match v {
-        Verdict::Read(_) => 0,
-        Verdict::Written(w) => match w {
-            Write::Bits(c) => wrote(broadcast, 1, c.address, c.count),
-            Write::Words(c) => wrote(broadcast, 3, c.address, c.count),
-        },
-        Verdict::Masked(m) => wrote(broadcast, 3, m.address, 1),
-        Verdict::Exchanged(x) => pack(0, 0, 3, x.write_address, x.write_count),
-        Verdict::Refused(code) => pack(2, code, 0, 0, 0),
-        Verdict::Quiet(outcome, code) => pack(outcome, code, 0, 0, 0),
+    match refusal {
+        Refusal::Exception(code) => pack(2, u8::from(code), 0, 0, 0),
+        Refusal::Ignored(code) => pack(3, u8::from(code), 0, 0, 0),
+        Refusal::ReadIgnored => 3,
+        Refusal::Foreign => 4,
+        Refusal::FrameBroken => 5,
+        Refusal::FrameCheck => 6,
+        Refusal::WrongLength => 7,
+        Refusal::BadFunction => 8,
+        Refusal::NoRoom => 9,
+        Refusal::BadSetup => 10,
     }
 }
 

@@ -111,13 +111,18 @@ module _ {F G : Type 0} (R : F → G → Type 0) where
   by_alike (go a) (go b) h f g = g a refl (ap go (sym h))
 
   module _ {P Q : Type 0} (silent : Silent → F) (refused : ℕ → F) (silent' : Silent → G) (refused' : ℕ → G) (s : Setup) (d : Dec P) (e : Dec Q) (b : List ℕ) where
-    pub weigh_alike : (P → Q) → (Q → P) → ((o : Silent) → R (silent o) (silent' o)) → ((c : ℕ) → R (refused c) (refused' c))
-        → Alike R (weigh silent refused s d b) (weigh silent' refused' s e b)
+    -- of the codes there are three
+    pub weigh_coded_alike : (P → Q) → (Q → P) → ((o : Silent) → R (silent o) (silent' o)) → R (refused 1) (refused' 1) → R (refused 2) (refused' 2)
+        → R (refused 3) (refused' 3) → Alike R (weigh silent refused s d b) (weigh silent' refused' s e b)
     unfolding weigh
-    weigh_alike f g q c =
+    weigh_coded_alike f g q c₁ c₂ c₃ =
         need_alike _ _ _ _ _ _ (λ h. h) (λ h. h) (q bad_function_quiet)
-        (bind_alike _ _ _ _ (find_alike code _ _ _ (offered (proto s)) (c 1)) λ fn.
+        (bind_alike _ _ _ _ (find_alike code _ _ _ (offered (proto s)) c₁) λ fn.
         need_alike _ _ _ _ _ _ (λ n h. n (g h.0, h.1)) (λ n h. n (f h.0, h.1)) (q read_ignored_quiet)
         (need_alike _ _ _ _ _ _ (λ h. h) (λ h. h) (q wrong_length_quiet)
-        (need_alike _ _ _ _ _ _ (λ h. h) (λ h. h) (c 3)
-        (need_alike _ _ _ _ _ _ (λ h. h) (λ h. h) (c 2) refl))))
+        (need_alike _ _ _ _ _ _ (λ h. h) (λ h. h) c₃
+        (need_alike _ _ _ _ _ _ (λ h. h) (λ h. h) c₂ refl))))
+
+    pub weigh_alike : (P → Q) → (Q → P) → ((o : Silent) → R (silent o) (silent' o)) → ((c : ℕ) → R (refused c) (refused' c))
+        → Alike R (weigh silent refused s d b) (weigh silent' refused' s e b)
+    weigh_alike f g q c = weigh_coded_alike f g q (c 1) (c 2) (c 3)

@@ -4,7 +4,7 @@ use mathlib.Core.Bool.{Bool, true, false}
 use mathlib.Core.Logic.{◌⊎◌, inl, inr, ⊎_elim}
 use mathlib.Core.Path.{◌≡◌, refl, sym, ap, subst, ◌∙◌}
 use mathlib.Core.List.{List, [], ◌∷◌}
-use Rattle.std.specs.Prelude.{Ok, Err}
+use Rattle.std.specs.Prelude.{Option, None, Some, Ok, Err}
 use Prim.Native.Nat.{ℕ, ◌+◌, ◌*◌, ◌/◌, ◌%◌, ◌≤◌, ◌<◌}
 use native.Mathlib.Omega.{arith}
 use lib.ListN.{length, get_or, take, drop, length-drop}
@@ -24,17 +24,15 @@ use Rattle.modbus.proofs.RequestLaws.{asked_says}
 use Rattle.modbus.proofs.Views.{Hexad, hexad, hexad?}
 use Rattle.modbus.proofs.FindLaws.{found_fault}
 use Rattle.modbus.proofs.WeighLaws.{went}
-use Rattle.requests.specs.Judged.{On, Verdict, refused_by, weighed, kept, kept_by, judged}
+use Rattle.requests.specs.Judged.{On, Verdict, refused_by, spoken, weighed, kept, kept_by, judged}
 use Rattle.requests.specs.declared.Cells.{Cells}
 use Rattle.requests.specs.declared.ReadCells.{ReadCells}
 use Rattle.requests.specs.declared.Mask.{Mask}
 use Rattle.requests.specs.declared.Exchange.{Exchange}
-use Rattle.requests.specs.declared.Write.TheVariants.{Bits, Words}
 use Rattle.requests.specs.declared.Request.TheVariants as request
 use Rattle.requests.specs.declared.Code.{Code}
 use Rattle.requests.specs.declared.Code.TheVariants.{IllegalFunction, IllegalDataAddress, IllegalDataValue}
 use Rattle.requests.specs.declared.Refusal.{Refusal}
-use Rattle.requests.specs.declared.Refusal.TheVariants.{Exception, Ignored, Foreign, FrameBroken, FrameCheck, WrongLength, BadFunction, NoRoom, BadSetup}
 use Rattle.requests.proofs.JudgedLaws.{many_kept}
 
 -- ---- what a verdict promises of its body
@@ -92,24 +90,17 @@ pub record FineBoth (s : Setup) (broadcast : Bool) (b : List ℕ) (x : Exchange)
   pub own : ¬ On broadcast
 
 -- an exception is told only of a function below 128
-abbrev pub Told : List ℕ → Refusal → Type 0
-Told b (Exception c) = get_or b 1 0 ≤ 127
-Told b (Ignored c) = Unit {0}
-Told b Foreign = Unit {0}
-Told b FrameBroken = Unit {0}
-Told b FrameCheck = Unit {0}
-Told b WrongLength = Unit {0}
-Told b BadFunction = Unit {0}
-Told b NoRoom = Unit {0}
-Told b BadSetup = Unit {0}
+abbrev pub Told : List ℕ → Option Code → Type 0
+Told b None = Unit {0}
+Told b (Some c) = get_or b 1 0 ≤ 127
 
 abbrev pub Fine : Setup → Bool → List ℕ → Verdict → Type 0
 Fine s broadcast b (Ok (request.Read q)) = FineRead s broadcast b q
-Fine s broadcast b (Ok (request.Write (Bits c))) = FineWrite bit s broadcast b c
-Fine s broadcast b (Ok (request.Write (Words c))) = FineWrite word s broadcast b c
+Fine s broadcast b (Ok (request.WriteBits c)) = FineWrite bit s broadcast b c
+Fine s broadcast b (Ok (request.WriteWords c)) = FineWrite word s broadcast b c
 Fine s broadcast b (Ok (request.Mask m)) = FineMask s broadcast b m
 Fine s broadcast b (Ok (request.Exchange x)) = FineBoth s broadcast b x
-Fine s broadcast b (Err r) = (weighed s broadcast b ≡ stop r) × Told b r
+Fine s broadcast b (Err r) = (weighed s broadcast b ≡ stop r) × Told b (spoken r)
 
 -- the high byte of 0000 or FF00 tells the coil
 one_bit : (b : List ℕ) → Hexad b → ((i : ℕ) → get_or b i 0 < 256) → Valued (one bit) b
@@ -129,19 +120,19 @@ one_bounds word = omega arith
 
 -- ---- what stops a body is fine to tell
 
-refused_told : (broadcast : Bool) (c : Code) (b : List ℕ) → get_or b 1 0 ≤ 127 → Told b (refused_by broadcast c)
+refused_told : (broadcast : Bool) (c : Code) (b : List ℕ) → get_or b 1 0 ≤ 127 → Told b (spoken (refused_by broadcast c))
 refused_told true c b h = tt
 refused_told false c b h = h
 
-stop_told : (s : Setup) (broadcast : Bool) (b : List ℕ) (r : Refusal) → weighed s broadcast b ≡ stop r → Told b r
+stop_told : (s : Setup) (broadcast : Bool) (b : List ℕ) (r : Refusal) → weighed s broadcast b ≡ stop r → Told b (spoken r)
 unfolding weigh
 stop_told s broadcast b r e =
-    needed_stop _ _ _ e (λ n q. subst (Told b) q tt)
-    λ p e₁. bound_stop _ _ e₁ (λ q. subst (Told b) (found_fault code _ _ _ q) (refused_told broadcast IllegalFunction b p))
-    λ fn q e₂. needed_stop _ _ _ e₂ (λ n q. subst (Told b) q tt)
-    λ o e₃. needed_stop _ _ _ e₃ (λ n q. subst (Told b) q tt)
-    λ l e₄. needed_stop _ _ _ e₄ (λ n q. subst (Told b) q (refused_told broadcast IllegalDataValue b p))
-    λ y e₅. needed_stop _ _ _ e₅ (λ n q. subst (Told b) q (refused_told broadcast IllegalDataAddress b p))
+    needed_stop _ _ _ e (λ n q. subst (λ x. Told b (spoken x)) q tt)
+    λ p e₁. bound_stop _ _ e₁ (λ q. subst (λ x. Told b (spoken x)) (found_fault code _ _ _ q) (refused_told broadcast IllegalFunction b p))
+    λ fn q e₂. needed_stop _ _ _ e₂ (λ n q. subst (λ x. Told b (spoken x)) q tt)
+    λ o e₃. needed_stop _ _ _ e₃ (λ n q. subst (λ x. Told b (spoken x)) q tt)
+    λ l e₄. needed_stop _ _ _ e₄ (λ n q. subst (λ x. Told b (spoken x)) q (refused_told broadcast IllegalDataValue b p))
+    λ y e₅. needed_stop _ _ _ e₅ (λ n q. subst (λ x. Told b (spoken x)) q (refused_told broadcast IllegalDataAddress b p))
     λ i e₆. let z : ◌≡◌ {A = ℕ} 0 1 = cc in absurd (omega arith)
 
 module _ (s : Setup) (broadcast : Bool) (b : List ℕ) where

@@ -112,12 +112,12 @@ module _ (s : Setup) (broadcast : Bool) (b : List ℕ) (fn : Fn) (e : get_or b 1
 -- a write of many is kept with its count
 pub many_kept : (k : Kind) (b : List ℕ)
     → (reading (asked (many k) b) ++ writing (asked (many k) b) ≡ record { tab = target k; first = word_at b 2; count = word_at b 4 } ∷ [])
-    × (kept (asked (many k) b) ≡ request.Write (write_of k (record { address = word_at b 2; count = word_at b 4; at = 7 })))
+    × (kept (asked (many k) b) ≡ write_of k (record { address = word_at b 2; count = word_at b 4; at = 7 }))
 many_kept k b = let n = length_part (datum k (drop 7 b)) 0 (word_at b 4) in (rw n, rw n)
 
 pub one_kept : (k : Kind) (b : List ℕ)
     → (reading (asked (one k) b) ++ writing (asked (one k) b) ≡ record { tab = target k; first = word_at b 2; count = 1 } ∷ [])
-    × (kept (asked (one k) b) ≡ request.Write (write_of k (record { address = word_at b 2; count = 1; at = 4 })))
+    × (kept (asked (one k) b) ≡ write_of k (record { address = word_at b 2; count = 1; at = 4 }))
 one_kept bit b = (refl, refl)
 one_kept word b = (refl, refl)
 

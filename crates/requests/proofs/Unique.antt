@@ -3,19 +3,18 @@
 use mathlib.Core.Path.{◌≡◌, refl, sym, ◌∙◌}
 use mathlib.Core.Bool.{cond}
 use mathlib.Core.List.{List, [], ◌∷◌}
-use Rattle.std.specs.Prelude.{None, Some, Ok, Err}
+use Rattle.std.specs.Prelude.{Ok, Err}
 use lib.Dec.{eqb}
 use Rattle.modbus.specs.Table.{coils, discretes, holdings, inputs, Sizes}
 use Rattle.modbus.specs.Setup.{Setup}
 use Rattle.modbus.proofs.Unique.{Unique, by_back}
 use Prim.Native.Nat.{ℕ}
 use Rattle.requests.specs.Judged.{Verdict, verdict_paper}
-use Rattle.requests.specs.declared.Write.TheVariants.{Bits, Words}
 use Rattle.requests.specs.declared.Request.TheVariants as request
 use Rattle.requests.specs.declared.Code.{Code}
 use Rattle.requests.specs.declared.Code.TheVariants.{IllegalFunction, IllegalDataAddress, IllegalDataValue}
 use Rattle.requests.specs.declared.Refusal.{Refusal}
-use Rattle.requests.specs.declared.Refusal.TheVariants.{Exception, Ignored, Foreign, FrameBroken, FrameCheck, WrongLength, BadFunction, NoRoom, BadSetup}
+use Rattle.requests.specs.declared.Refusal.TheVariants.{Exception, Ignored, ReadIgnored, Foreign, FrameBroken, FrameCheck, WrongLength, BadFunction, NoRoom, BadSetup}
 use Rattle.requests.proofs.judge.Kinds as judge-kinds
 use Rattle.requests.proofs.judge.Reads as judge-reads
 
@@ -26,15 +25,15 @@ code_back n = cond (eqb n 1) IllegalFunction (cond (eqb n 2) IllegalDataAddress 
 
 abbrev refusal_back : ℕ → ℕ → Refusal
 refusal_back o c =
-    cond (eqb o 2) (Exception (code_back c)) (cond (eqb o 3) (Ignored (cond (eqb c 0) None (Some (code_back c)))) (cond (eqb o 4) Foreign
+    cond (eqb o 2) (Exception (code_back c)) (cond (eqb o 3) (cond (eqb c 0) ReadIgnored (Ignored (code_back c))) (cond (eqb o 4) Foreign
     (cond (eqb o 5) FrameBroken (cond (eqb o 6) FrameCheck (cond (eqb o 7) WrongLength (cond (eqb o 8) BadFunction (cond (eqb o 9) NoRoom BadSetup)))))))
 
 abbrev verdict_back : List ℕ → Verdict
 verdict_back (o ∷ r ∷ c ∷ []) = Err (refusal_back o c)
-verdict_back (o ∷ f ∷ a ∷ n ∷ []) = Ok (request.Read (record { function = f; address = a; count = n }))
+verdict_back (o ∷ f ∷ a ∷ n ∷ []) = Ok (request.Read (record { address = a; count = n; function = f }))
 verdict_back (o ∷ k ∷ a ∷ n ∷ at ∷ []) =
     Ok (cond (eqb k 22) (request.Mask (record { address = a; and_mask = n; or_mask = at }))
-    (request.Write (cond (eqb k 0) (Bits (record { address = a; count = n; at = at })) (Words (record { address = a; count = n; at = at })))))
+    (cond (eqb k 0) (request.WriteBits (record { address = a; count = n; at = at })) (request.WriteWords (record { address = a; count = n; at = at }))))
 verdict_back (o ∷ k ∷ r ∷ n ∷ s ∷ m ∷ l) =
     Ok (request.Exchange (record { read_address = r; read_count = n; write_address = s; write_count = m }))
 verdict_back [] = Err BadSetup
@@ -43,17 +42,17 @@ verdict_back (o ∷ r ∷ []) = Err BadSetup
 
 verdict_back_law : (v : Verdict) → verdict_back (verdict_paper v) ≡ v
 verdict_back_law (Ok (request.Read q)) = refl
-verdict_back_law (Ok (request.Write (Bits c))) = refl
-verdict_back_law (Ok (request.Write (Words c))) = refl
+verdict_back_law (Ok (request.WriteBits c)) = refl
+verdict_back_law (Ok (request.WriteWords c)) = refl
 verdict_back_law (Ok (request.Mask m)) = refl
 verdict_back_law (Ok (request.Exchange x)) = refl
 verdict_back_law (Err (Exception IllegalFunction)) = refl
 verdict_back_law (Err (Exception IllegalDataAddress)) = refl
 verdict_back_law (Err (Exception IllegalDataValue)) = refl
-verdict_back_law (Err (Ignored None)) = refl
-verdict_back_law (Err (Ignored (Some IllegalFunction))) = refl
-verdict_back_law (Err (Ignored (Some IllegalDataAddress))) = refl
-verdict_back_law (Err (Ignored (Some IllegalDataValue))) = refl
+verdict_back_law (Err ReadIgnored) = refl
+verdict_back_law (Err (Ignored IllegalFunction)) = refl
+verdict_back_law (Err (Ignored IllegalDataAddress)) = refl
+verdict_back_law (Err (Ignored IllegalDataValue)) = refl
 verdict_back_law (Err Foreign) = refl
 verdict_back_law (Err FrameBroken) = refl
 verdict_back_law (Err FrameCheck) = refl

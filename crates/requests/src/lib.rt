@@ -2,14 +2,14 @@
 // keeps it. No table is looked at: of each table only the number of its cells counts.
 #![tactic(auto)]
 
-ghost use Rattle.std.specs.Prelude.{◌≡◌, ◌+◌, ◌≤◌, length, get_or};
-ghost use Rattle.modbus.specs.Step.{choose, ◌≤?◌, ◌≟◌, ◌and?◌};
+ghost use Rattle.std.specs.Prelude.{true, false, ◌≡◌, ◌+◌, ◌≤◌, length, get_or};
+ghost use Rattle.modbus.specs.Step.{choose, ◌≤?◌, ◌≟◌, ◌and?◌, ◌or?◌};
 ghost use Rattle.modbus.specs.Table.{Tab, coils, discretes, holdings, inputs, kind_of, target};
 ghost use Rattle.modbus.specs.Request.{reads, one, many, mask, both, code, most_read, most_written, octets};
 ghost use Rattle.modbus.specs.Paper.{kind_in};
 ghost use Rattle.modbus.specs.Setup.{Setup};
 ghost use Rattle.modbus.specs.Decode.{valued?};
-ghost use Rattle.requests.specs.Judged.{refused_by, needed, written, write_of, judged, verdict_paper};
+ghost use Rattle.requests.specs.Judged.{refused_by, needed, written, write_of, judged, code_number, verdict_paper};
 ghost use Rattle.requests.specs.declared.Code.TheVariants as code;
 ghost use Rattle.requests.specs.declared.Refusal.TheVariants.{BadFunction, WrongLength};
 
@@ -19,9 +19,9 @@ use octets::word;
 // A read: its function tells the table.
 #[derive(Clone, Copy)]
 pub struct ReadCells {
-    pub function: u8,
     pub address: u16,
     pub count: u16,
+    pub function: u8,
 }
 
 // A write: the cells that it names, and where its data stand in the body. Bits are packed into as few bytes as hold them, words have two each.
@@ -29,13 +29,7 @@ pub struct ReadCells {
 pub struct Cells {
     pub address: u16,
     pub count: u16,
-    pub at: usize,
-}
-
-#[derive(Clone, Copy)]
-pub enum Write {
-    Bits(Cells),
-    Words(Cells),
+    pub at: u8,
 }
 
 // A mask write: the register, and its two masks.
@@ -59,7 +53,8 @@ pub struct Exchange {
 #[derive(Clone, Copy)]
 pub enum Request {
     Read(ReadCells),
-    Write(Write),
+    WriteBits(Cells),
+    WriteWords(Cells),
     Mask(Mask),
     Exchange(Exchange),
 }
@@ -67,17 +62,30 @@ pub enum Request {
 // What an exception says.
 #[derive(Clone, Copy)]
 pub enum Code {
-    IllegalFunction = 1,
-    IllegalDataAddress = 2,
-    IllegalDataValue = 3,
+    IllegalFunction,
+    IllegalDataAddress,
+    IllegalDataValue,
 }
 
-// Why a request is not served: document 01's outcomes 2 to 10. All but an exception are silent. What is ignored came to a broadcast number: it has
-// the code of the exception that our own number would have had, and a read has none.
+impl From<Code> for u8 {
+    ghost from_gives = { λ code n. n ≡ code_number code };
+
+    fn from(code: Code) -> u8 {
+        match code {
+            Code::IllegalFunction => 1,
+            Code::IllegalDataAddress => 2,
+            Code::IllegalDataValue => 3,
+        }
+    }
+}
+
+// Why a request is not served: document 01's outcomes 2 to 10, of which only an exception is answered. What is ignored came to a broadcast number: a
+// read, or what our own unit would have answered by an exception of this code.
 #[derive(Clone, Copy)]
 pub enum Refusal {
     Exception(Code),
-    Ignored(Option<Code>),
+    Ignored(Code),
+    ReadIgnored,
     Foreign,
     FrameBroken,
     FrameCheck,
@@ -92,7 +100,7 @@ fn refused(broadcast: bool, code: Code) -> Refusal
     ensures { result ≡ refused_by broadcast code }
 {
     if broadcast {
-        return Refusal::Ignored(Some(code));
+        return Refusal::Ignored(code);
     }
     Refusal::Exception(code)
 }
@@ -122,7 +130,7 @@ fn judge_read(body: &[u8], broadcast: bool, most: u16, cells: usize) -> Result<R
     ensures { (s : Setup) → ((t : Tab) → get_or body.now 1 0 ≡ code (reads t) → s.cells t ≡ cells) → result ≡ judged s broadcast body.now }
 {
     if broadcast {
-        return Err(Refusal::Ignored(None));
+        return Err(Refusal::ReadIgnored);
     }
     if body.len() != 6 {
         return Err(Refusal::WrongLength);
@@ -132,10 +140,19 @@ fn judge_read(body: &[u8], broadcast: bool, most: u16, cells: usize) -> Result<R
     let address = word(body, 2);
     inside(broadcast, address, count, cells)?;
     Ok(Request::Read(ReadCells {
-        function: body[1],
         address: address,
         count: count,
+        function: body[1],
     }))
+}
+
+fn is_coil(value: u16) -> bool
+    ensures { result ≡ choose ((value ≟ 0) or? (value ≟ 0xFF00)) true false }
+{
+    match value {
+        0 | 0xFF00 => true,
+        _ => false,
+    }
 }
 
 // A single coil is off or on; a register may have any value.
@@ -143,20 +160,22 @@ fn valued(body: &[u8], broadcast: bool, kind: CellKind) -> Result<(), Refusal>
     ensures { result ≡ needed (valued? (one (kind_in kind)) body.now) (refused_by broadcast code.IllegalDataValue) }
 {
     match kind {
+        CellKind::Bits => {
+            if !is_coil(word(body, 4)) {
+                return Err(refused(broadcast, Code::IllegalDataValue));
+            }
+            Ok(())
+        }
         CellKind::Words => Ok(()),
-        CellKind::Bits => match word(body, 4) {
-            0 | 0xFF00 => Ok(()),
-            _ => Err(refused(broadcast, Code::IllegalDataValue)),
-        },
     }
 }
 
-fn write_of(kind: CellKind, c: Cells) -> Write
+fn write_of(kind: CellKind, c: Cells) -> Request
     ensures { result ≡ write_of (kind_in kind) c }
 {
     match kind {
-        CellKind::Bits => Write::Bits(c),
-        CellKind::Words => Write::Words(c),
+        CellKind::Bits => Request::WriteBits(c),
+        CellKind::Words => Request::WriteWords(c),
     }
 }
 
@@ -170,7 +189,7 @@ fn judge_address(
     ensures { result ≡ written (kind_in kind) c cells (refused_by broadcast code.IllegalDataAddress) }
 {
     inside(broadcast, c.address, c.count, cells)?;
-    Ok(Request::Write(write_of(kind, c)))
+    Ok(write_of(kind, c))
 }
 
 // A write of one coil or register.
@@ -259,7 +278,7 @@ fn judge_both(body: &[u8], broadcast: bool, cells: usize) -> Result<Request, Ref
     ensures { (s : Setup) → s.cells holdings ≡ cells → result ≡ judged s broadcast body.now }
 {
     if broadcast {
-        return Err(Refusal::Ignored(None));
+        return Err(Refusal::ReadIgnored);
     }
     lengthy(body, 10)?;
     let x = Exchange {

@@ -3,8 +3,6 @@
 use mathlib.Core.Path.{sym, ap, ◌∙◌}
 use Rattle.std.specs.Prelude.{Ok}
 use Rattle.modbus.proofs.StepLaws.{pick_yes, pick_no}
-use Rattle.requests.specs.declared.Request.TheVariants as request
-use Rattle.requests.specs.declared.Write.{Write}
 use Rattle.requests.proofs.JudgedLaws.{needed_ok, needed_err, needed_out}
 use Rattle.requests.proofs.judge_address.Goals as goal
 
@@ -15,5 +13,5 @@ returns-in_err-inside c =
 
 pub returns : goal.returns
 returns c =
-    ap (λ (w : Write). Ok (request.Write w)) c.write_of.ensures
+    ap Ok c.write_of.ensures
     ∙ sym (pick_yes _ _ _ (needed_ok _ _ c.inside.ensures c.in_ok-inside.was))
