@@ -94,17 +94,17 @@ fn set_one(
 ) -> Result<usize, Refusal>
     ensures { (answer_of result, request.new) ≡ laid_into request.old (generated to (write_by reg values.now (one (kind_in kind))) (length request.old)) }
 {
-    if values.len() != 1 {
+    let &[value] = values else {
         return Err(Refusal::BadRequest);
-    }
+    };
     let head = match kind {
         CellKind::Bits => {
-            if 1 < values[0] {
+            if 1 < value {
                 return Err(Refusal::BadRequest);
             }
-            pair(to.unit_id, 5, reg, 0xFF00 * values[0])
+            pair(to.unit_id, 5, reg, 0xFF00 * value)
         }
-        CellKind::Words => pair(to.unit_id, 6, reg, values[0]),
+        CellKind::Words => pair(to.unit_id, 6, reg, value),
     };
     send(to, &head, &[], request)
 }

@@ -10,7 +10,7 @@ ghost use Rattle.std.specs.Prelude.{◌≡◌, ℕ, length, IfOk, IfErr};
 ghost use Rattle.modbus.specs.Step.{go};
 ghost use Rattle.modbus.specs.Request.{masks, swaps};
 ghost use Rattle.client.specs.Asking.{declined_by, asker, getting, setting, generated, laid_into, understood, read_into};
-ghost use Rattle.client.specs.Hearing.{refusal_of, answer_of, reading_of, Said, Unsaid};
+ghost use Rattle.client.specs.Hearing.{refusal_of, answer_of, reading_of, values_of, Said, Unsaid};
 ghost use Rattle.client.specs.declared.Refusal.TheVariants.{BadRequest, Unopened};
 
 use build::{pair, send, send_both, set};
@@ -189,17 +189,24 @@ impl ModbusRequest {
     }
 }
 
-// How many values an answer shows to the request that the body says, if it says one.
+// How many values an answer to a request shows.
+fn values_of(asked: Request) -> usize
+    ensures { result ≡ values_of asked }
+{
+    match asked {
+        Request::Read(q) => q.count as usize,
+        Request::Exchange(x) => x.read_count as usize,
+        Request::WriteBits(_) | Request::WriteWords(_) | Request::Mask(_) => 0,
+    }
+}
+
+// The same of the request that a body says, if it says one.
 fn shown_by(sent: &[u8]) -> Result<usize, Refusal>
     ensures ok { (n : ℕ) → IfOk result (λ count. Said n sent.now count) }
     ensures err { (n : ℕ) → IfErr result (λ refusal. (refusal ≡ BadRequest) × Unsaid n sent.now) }
 {
     match judge(sent, false, 65536, 65536, 65536, 65536) {
-        Ok(Request::Read(q)) => Ok(q.count as usize),
-        Ok(Request::Exchange(x)) => Ok(x.read_count as usize),
-        Ok(Request::WriteBits(_)) => Ok(0),
-        Ok(Request::WriteWords(_)) => Ok(0),
-        Ok(Request::Mask(_)) => Ok(0),
+        Ok(asked) => Ok(values_of(asked)),
         Err(_) => Err(Refusal::BadRequest),
     }
 }

@@ -1,7 +1,6 @@
 -- `client::hear::other_tag` meets its contract: the serial lines have no tag, and TCP has two bytes.
 -- Assumes nothing.
 use mathlib.Core.Path.{sym, ◌∙◌}
-use native.Mathlib.Omega.{arith}
 use Rattle.std.proofs.lemmas.Bool.{lt-leb}
 use Rattle.modbus.proofs.StepLaws.{pick_yes}
 use Rattle.client.proofs.HearLaws.{tag_none, tag_test}
