@@ -20,7 +20,7 @@ use modbus::{Answer, CellKind};
 use requests::{Request, judge};
 use transports::{Fault, body_of};
 
-// Whom to ask, and how: the transaction number (TCP alone), the unit, and the transport's number (0 RTU, 1 ASCII, 2 TCP).
+// Whom to ask, and how: the transaction number (TCP alone), the unit, and the transport's number (0 RTU, 1 ASCII, 2 TCP), as C has it.
 #[repr(C)]
 #[derive(Clone, Copy)]
 pub struct ModbusRequest {
@@ -29,7 +29,7 @@ pub struct ModbusRequest {
     pub proto: u8,
 }
 
-// What a reply says: 0 and how many values, 2 and the exception's code, or the number of a refusal.
+// What a reply says, as C has it: 0 and how many values, 2 and the exception's code, or the number of a refusal.
 #[repr(C)]
 #[derive(Clone, Copy)]
 pub struct Reading {

@@ -117,7 +117,8 @@ pub fn open_ascii(hex: u8, frame: &[u8], raw: &mut [u8; 256]) -> Result<usize, F
     }
 }
 
-// Lays the text of the bytes behind the first place, and answers their LRC. One loop for both: it pays where the bytes are few.
+// Lays the text of the bytes behind the first place, and answers their LRC. One loop for both: without it a short frame costs 100
+// instructions more (docs/COST.md).
 fn lay_few(dst: &mut [u8], bytes: &[u8]) -> u8
     requires { 2 * length bytes.now + 1 ≤ length dst.old }
     ensures { (result ≡ lrc bytes.now) × (dst.new ≡ sets dst.old 1 (text bytes.now)) }
