@@ -94,17 +94,17 @@ fn set_one(
 ) -> Result<usize, Refusal>
     ensures { (answer_of result, request.new) ≡ laid_into request.old (generated to (write_by reg values.now (one (kind_in kind))) (length request.old)) }
 {
-    if values.len() != 1 {
+    let &[value] = values else {
         return Err(Refusal::BadRequest);
-    }
+    };
     let head = match kind {
         CellKind::Bits => {
-            if 1 < values[0] {
+            if 1 < value {
                 return Err(Refusal::BadRequest);
             }
-            pair(to.unit_id, 5, reg, 0xFF00 * values[0])
+            pair(to.unit_id, 5, reg, 0xFF00 * value)
         }
-        CellKind::Words => pair(to.unit_id, 6, reg, values[0]),
+        CellKind::Words => pair(to.unit_id, 6, reg, value),
     };
     send(to, &head, &[], request)
 }
@@ -146,26 +146,32 @@ fn set_many(
     let octets = octets_of(kind, n);
     let mut data = [0u8; 246];
     lay(kind, values, &mut data);
-    send_many(to, many_number(kind), reg, n as u16, octets, &data, request)
+    send_many(
+        to,
+        many_number(kind),
+        reg,
+        n as u16,
+        &data[..octets],
+        request,
+    )
 }
 
-// The first `octets` bytes of the data hold the n values.
+// The data hold the n values.
 fn send_many(
     to: ModbusRequest,
     func: u8,
     reg: u16,
     n: u16,
-    octets: usize,
     data: &[u8],
     request: &mut [u8],
 ) -> Result<usize, Refusal>
-    requires { (octets ≤ 246) × (octets ≤ length «data».now) }
-    ensures { (answer_of result, request.new) ≡ laid_into request.old (body_sent to (many_body to func reg n octets (take octets «data».now)) (length request.old)) }
+    requires { length «data».now ≤ 246 }
+    ensures { (answer_of result, request.new) ≡ laid_into request.old (body_sent to (many_body to func reg n (length «data».now) «data».now) (length request.old)) }
 {
     let [a, b] = reg.to_be_bytes();
     let [c, d] = n.to_be_bytes();
-    let head = [to.unit_id, func, a, b, c, d, octets as u8];
-    send(to, &head, &data[..octets], request)
+    let head = [to.unit_id, func, a, b, c, d, data.len() as u8];
+    send(to, &head, data, request)
 }
 
 // Functions 5, 6, 15 and 16: the values are written from `reg` on.
@@ -187,7 +193,7 @@ pub(crate) fn set(
     }
 }
 
-// Function 23: the holdings to read, those to write, and the values, which stand in the front of the data.
+// Function 23: the holdings to read, those to write, and the data, which hold the n values.
 pub(crate) fn send_both(
     to: ModbusRequest,
     reg: u16,
@@ -197,14 +203,13 @@ pub(crate) fn send_both(
     data: &[u8],
     request: &mut [u8],
 ) -> Result<usize, Refusal>
-    requires { (n ≤ 121) × (2 * n ≤ length «data».now) }
-    ensures { (answer_of result, request.new) ≡ laid_into request.old (body_sent to (both_body to reg count write_reg n (take (2 * n) «data».now)) (length request.old)) }
+    requires { (n ≤ 121) × (2 * n ≡ length «data».now) }
+    ensures { (answer_of result, request.new) ≡ laid_into request.old (body_sent to (both_body to reg count write_reg n «data».now) (length request.old)) }
 {
-    let octets = 2 * (n as usize);
     let [a, b] = reg.to_be_bytes();
     let [c, d] = count.to_be_bytes();
     let [e, f] = write_reg.to_be_bytes();
     let [g, h] = n.to_be_bytes();
-    let head = [to.unit_id, 23, a, b, c, d, e, f, g, h, octets as u8];
-    send(to, &head, &data[..octets], request)
+    let head = [to.unit_id, 23, a, b, c, d, e, f, g, h, data.len() as u8];
+    send(to, &head, data, request)
 }

@@ -1,6 +1,6 @@
 -- `transports::lines::open_ascii` meets its contract: each way out is a law of a line that is read.
 -- Assumes nothing.
-use Rattle.std.proofs.Common.{◌≡◌, ℕ, ◌-◌, ◌≤◌, List, length, sym, refl, ap, ◌∙◌, arith}
+use Rattle.std.proofs.Common.{◌≡◌, ℕ, ◌-◌, ◌≤◌, List, length, sym, refl, ap, ◌∙◌, arith, length-take-le}
 use Rattle.modbus.specs.Hex.{spelt}
 use Rattle.modbus.proofs.HexLaws.{length_spelt}
 use Rattle.modbus.specs.Paper.{byte_paper}
@@ -61,8 +61,9 @@ check_lrc-requires-in-Value c =
     let (h, fits, e) = read (goal.at.check_lrc-requires-in-Value c).After-parse_text in
     let a = c.args in
     let line = spelt a.hex a.frame.now in
-    text_within line a.raw.now _ _ h fits e _
-    c.in-Value.is (c.if-n-frame.false ∙ sym (length_spelt _ a.frame.now))
+    let w = text_within line a.raw.now _ _ h fits e _ c.in-Value.is (c.if-n-frame.false ∙ sym (length_spelt _ a.frame.now)) in
+    let k = length-take-le _ _ w.1 in
+    (omega (arith, w.0, k), omega (arith, k))
 
 pub returns-in-Refused : goal.returns-in-Refused
 returns-in-Refused c =
