@@ -7,7 +7,7 @@ ghost use Rattle.modbus.specs.Check.{shift, crc_byte, crc_from, crc};
 ghost use Rattle.modbus.specs.Hex.{undigit, kinded, spell, character};
 ghost use Rattle.checks.specs.Within.{lrc_within};
 
-use modbus::{ErrorKind, Digit};
+use modbus::{Digit, ErrorKind};
 use std::num::wrapping_sub_u8;
 
 // The register after one bit.

@@ -6,17 +6,17 @@ use Prim.Native.Nat.{ℕ, ◌+◌, ◌-◌, ◌/◌, ◌%◌, ◌≤◌, ◌<◌
 use native.Mathlib.Omega.{arith}
 use lib.ListN.{length, take, drop, set, length-append, length-take, length-drop}
 use lib.Seq.{sets, sets-eq, length-sets, length-take-le, take-append_seam, drop-set-lt}
+use Rattle.modbus.specs.declared.ErrorKind.{ErrorKind}
 use Rattle.modbus.specs.Step.{stop, go, ◌≤?◌}
 use Rattle.modbus.specs.Bytes.{two, word_at}
-use Rattle.modbus.specs.Paper.{size_paper, told_with}
-use Rattle.modbus.specs.declared.SizeAnswer.{SizeAnswer}
+use Rattle.modbus.specs.Paper.{paper, told_with}
 use Rattle.modbus.specs.declared.ErrorKind.TheVariants.{OOB}
 use Rattle.modbus.proofs.StepLaws.{pass, fail, pick_yes, pick_no}
 use Rattle.modbus.proofs.BytesLaws.{sets_append}
 use Rattle.response.specs.Bounded.{extended}
 use Rattle.response.proofs.BoundedLaws.{extended_put}
 use Rattle.driver.specs.Driven.{Call, framing, called}
-use Rattle.std.specs.Prelude.{None}
+use Rattle.std.specs.Prelude.{None, Result}
 use Rattle.collector.specs.Collected.{held_in, holding, offered, emptied, refusing, rtu_called, quieting, served, closing, quieted}
 use Rattle.collector.proofs.PartLaws.{take_more, sets_own, sets_set}
 
@@ -107,9 +107,9 @@ module _ (s b : List ℕ) (n : ℕ) (long : 259 ≤ length s) (few : n ≤ 257) 
       ∙ ap (λ (r : List ℕ). go (n + more, r)) (stored (n + more))
 
 -- the same of the code's steps: the part that is added, what it leaves, and the two stores
-pub offered_code : (s b ext : List ℕ) (n more : ℕ) (r : SizeAnswer) → 259 ≤ length s → n ≤ 257 → held_in s ≡ take n (drop 2 s)
+pub offered_code : (s b ext : List ℕ) (n more : ℕ) (r : Result ℕ ErrorKind) → 259 ≤ length s → n ≤ 257 → held_in s ≡ take n (drop 2 s)
     → more ≡ min (length b) (257 - n)
-    → ◌≡◌ {A = (ℕ × ℕ) × List ℕ} (size_paper r, ext) (told_with s (extended s (n + 2) (take (more - 0) b)))
+    → ◌≡◌ {A = (ℕ × ℕ) × List ℕ} (paper r, ext) (told_with s (extended s (n + 2) (take (more - 0) b)))
     → ◌≡◌ {A = (ℕ × ℕ) × List ℕ} ((0, n + more), set (set ext 0 ((n + more) / 256)) 1 ((n + more) % 256)) (told_with s (offered s b))
 offered_code s b ext n more r long few held e x =
     let m : more - 0 ≡ min (length b) (257 - n) = omega arith in

@@ -11,7 +11,7 @@ use lib.Seq.{take_all, length-sets}
 use contract.Lifetimes.{Lfts}
 use borrow.Fn.Kinds.{Dens, res_t, ended_of}
 use denote.Triple.Clauses.{Lasts, at_exit}
-use Rattle.modbus.specs.Paper.{size_paper, told_with}
+use Rattle.modbus.specs.Paper.{paper, told_with}
 use Rattle.driver.specs.Driven.{Call, lending, framing, Leaves, leaving, called}
 use Rattle.collector.specs.Collected.{held_in, holding, offered, joined, emptied, refusing, rtu_called, quieted, closed_paper, left_by}
 use Rattle.collector.proofs.PartLaws.{take_again}
@@ -48,8 +48,8 @@ calls_hold (more κs a x u gs t p cs) h k =
     let s = a.0.now in
     let b = a.1.0.now in
     let v = u.0 in
-    let e = left_held s b v (size_paper x) p h in
-    let (m, f) = calls_hold cs (left_long s b v (size_paper x) p h) (rw e (simp length-take (omega arith))) in (
+    let e = left_held s b v (paper x) p h in
+    let (m, f) = calls_hold cs (left_long s b v (paper x) p h) (rw e (simp length-take (omega arith))) in (
       m,
       f ∙ ap (λ (r : List ℕ). take 257 (r ++ joined gs)) e ∙ take_again 257 (held_in s ++ b) (joined gs)
           ∙ ap (take 257) (append_assoc (held_in s) b (joined gs)),

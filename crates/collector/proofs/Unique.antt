@@ -3,7 +3,7 @@
 use mathlib.Core.Path.{refl, sym, ap, ◌∙◌}
 use mathlib.Core.List.{List}
 use Prim.Native.Nat.{ℕ}
-use Rattle.modbus.proofs.Unique.{Unique, size_paper_law}
+use Rattle.modbus.proofs.Unique.{Unique, paper_law}
 use Rattle.collector.specs.Collected.{Quieted}
 use Rattle.collector.proofs.offer.Kinds as offer-kinds
 use Rattle.collector.proofs.offer.Reads as offer-reads
@@ -15,7 +15,7 @@ use Rattle.collector.proofs.outcome_of.Reads as outcome-of-reads
 pub offer : Unique 2 offer-kinds.ps offer-kinds.r offer-reads.Post
 offer κs a x y u v p q =
     let e = p ∙ sym q in
-    (size_paper_law x y (ap (λ (t : (ℕ × ℕ) × List ℕ). t.0) e), ap (λ (t : (ℕ × ℕ) × List ℕ). (t.1, u.1)) e)
+    (paper_law x y (ap (λ (t : (ℕ × ℕ) × List ℕ). t.0) e), ap (λ (t : (ℕ × ℕ) × List ℕ). (t.1, u.1)) e)
 
 -- the coils are the third of the parameters, the holdings the fifth, the collector the seventh and the reply buffer the last
 pub quiet : Unique 7 quiet-kinds.ps quiet-kinds.r quiet-reads.Post

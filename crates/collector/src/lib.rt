@@ -3,13 +3,13 @@
 #![tactic(auto)]
 
 ghost use Rattle.std.specs.Prelude.{◌≡◌, [], ◌+◌, ◌≤◌, length, take, drop};
-ghost use Rattle.modbus.specs.Paper.{told_with, size_paper};
+ghost use Rattle.modbus.specs.Paper.{told_with, paper};
 ghost use Rattle.driver.specs.Driven.{lending, resulting, leaving};
 ghost use Rattle.collector.specs.Collected.{held_in, offered, rtu_called, quieting, quieted, closed_paper};
 ghost use Rattle.collector.specs.Waits.{Waits};
 
 use driver::{Driven, Setup};
-use modbus::{ErrorKind, SizeAnswer};
+use modbus::ErrorKind;
 use octets::{least, word};
 use response::extend;
 
@@ -37,19 +37,19 @@ fn count_of(state: &[u8]) -> usize
     n
 }
 
-pub fn offer(state: &mut [u8], bytes: &[u8]) -> SizeAnswer
-    ensures { (size_paper result, state.new) ≡ told_with state.old (offered state.old bytes.now) }
+pub fn offer(state: &mut [u8], bytes: &[u8]) -> Result<usize, ErrorKind>
+    ensures { (paper result, state.new) ≡ told_with state.old (offered state.old bytes.now) }
 {
     if state.len() < STATE {
-        return SizeAnswer::Refused(ErrorKind::OOB);
+        return Err(ErrorKind::OOB);
     }
     let n = count_of(state);
     let more = least(bytes.len(), MOST - n);
-    extend(state, n + 2, &bytes[0..more]);
+    let _ = extend(state, n + 2, &bytes[0..more]);
     let count = n + more;
     state[0] = (count / 256) as u8;
     state[1] = (count % 256) as u8;
-    SizeAnswer::Value(count)
+    Ok(count)
 }
 
 // How many bytes wait to be served, if any.

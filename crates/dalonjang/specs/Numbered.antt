@@ -1,16 +1,11 @@
 -- A guess as C asks for it: a switch above 1 is OOB before all else, and then a transport above 2 is BadSetup.
 -- Assumes nothing.
-use Rattle.std.specs.Prelude.{Bool, true, false, List, ℕ}
+use Rattle.std.specs.Prelude.{List, ℕ}
 use Rattle.modbus.specs.Step.{Step, stop, choose, ◌≤?◌}
 use Rattle.modbus.specs.Paper.{proto_of, told, bad_transport}
 use Rattle.modbus.specs.declared.ErrorKind.{ErrorKind}
 use Rattle.modbus.specs.declared.ErrorKind.TheVariants.{OOB}
-use Rattle.lengths.specs.Guess.{request_body, response_body, guess_under}
-
--- the body of a request, or of a response
-abbrev pub side_body : Bool → List ℕ → Step ErrorKind ℕ
-side_body true = request_body
-side_body false = response_body
+use Rattle.lengths.specs.Guess.{guess_under}
 
 unfoldable pub guessed : ℕ → (List ℕ → Step ErrorKind ℕ) → ℕ → List ℕ → ℕ × ℕ
 guessed hex body n f =

@@ -41,7 +41,7 @@ pub struct Setup {
 // What became of a request: the reply's length, document 01's outcome and code, and the cells that it wrote: their table, by the number of the function
 // that reads it, the first, and how many; without a write these are 0.
 #[repr(C)]
-#[derive(Clone, Copy)]
+#[derive(Clone, Copy, PartialEq, Eq)]
 pub struct Driven {
     pub length: usize,
     pub outcome: u8,

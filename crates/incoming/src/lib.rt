@@ -53,7 +53,12 @@ pub fn overflows(proto: ModbusProto, len: usize) -> bool
 }
 
 // The macro of the crate's parse: whether the check of a frame of `len` bytes is right. More than it can count are FrameBroken.
-pub fn check_frame_crc(proto: ModbusProto, buf: &[u8], start: usize, len: usize) -> Result<(), ErrorKind>
+pub fn check_frame_crc(
+    proto: ModbusProto,
+    buf: &[u8],
+    start: usize,
+    len: usize,
+) -> Result<(), ErrorKind>
     ensures { done_paper result ≡ told (frame_checked proto buf.now start len) }
 {
     if overflows(proto, len) {

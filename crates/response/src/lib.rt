@@ -75,7 +75,12 @@ pub fn extend(response: &mut [u8], len: usize, other: &[u8]) -> Result<usize, Er
     Ok(len + other.len())
 }
 
-pub fn resize(response: &mut [u8], len: usize, new_len: usize, value: u8) -> Result<usize, ErrorKind>
+pub fn resize(
+    response: &mut [u8],
+    len: usize,
+    new_len: usize,
+    value: u8,
+) -> Result<usize, ErrorKind>
     ensures { (paper result, response.new) ≡ told_with response.old (resized response.old len new_len value) }
 {
     if response.len() < len {

@@ -92,7 +92,12 @@ pub fn get_inputs_as_u8(
     add_part(table, cells, reg, count, response, len)
 }
 
-pub fn set_holdings_from_u8(table: &mut [u8], cells: usize, reg: u16, values: &[u8]) -> Result<(), ErrorKind>
+pub fn set_holdings_from_u8(
+    table: &mut [u8],
+    cells: usize,
+    reg: u16,
+    values: &[u8],
+) -> Result<(), ErrorKind>
     ensures { (done_paper result, table.new) ≡ told_with table.old (stored_whole table.old cells reg values.now) }
 {
     let first = reg as usize;

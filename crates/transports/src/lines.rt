@@ -15,7 +15,6 @@ ghost use Rattle.transports.specs.Sealed.{sealed};
 use crate::Fault;
 use ascii::{low_digit, other, parse_text, put_text};
 use checks::calc_lrc;
-use modbus::ByteAnswer;
 use response::extend;
 
 // Whether a frame is a line of text within the bounds.
@@ -36,8 +35,8 @@ fn check_lrc(bytes: &[u8]) -> Result<usize, Fault>
 {
     let k = bytes.len() - 1;
     match calc_lrc(bytes, k as u8) {
-        ByteAnswer::Refused(_) => Err(Fault::Broken),
-        ByteAnswer::Value(lrc) => {
+        Err(_) => Err(Fault::Broken),
+        Ok(lrc) => {
             if bytes[k] != lrc {
                 return Err(Fault::WrongCheck);
             }
@@ -107,8 +106,8 @@ pub fn open_ascii(hex: u8, frame: &[u8], raw: &mut [u8; 256]) -> Result<usize, F
         return check_lrc(&raw[..7]);
     }
     match parse_text(frame, frame.len() - 2, raw, 0, hex) {
-        ByteAnswer::Refused(_) => Err(Fault::Broken),
-        ByteAnswer::Value(n) => {
+        Err(_) => Err(Fault::Broken),
+        Ok(n) => {
             if 2 * (n as usize) + 3 != frame.len() {
                 return Err(Fault::Broken);
             }
@@ -139,8 +138,8 @@ fn lay_many(dst: &mut [u8], bytes: &[u8]) -> u8
 {
     put_text(dst, 1, bytes);
     match calc_lrc(bytes, bytes.len() as u8) {
-        ByteAnswer::Refused(_) => 0,
-        ByteAnswer::Value(check) => check,
+        Err(_) => 0,
+        Ok(check) => check,
     }
 }
 

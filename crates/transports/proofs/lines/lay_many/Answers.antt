@@ -7,15 +7,15 @@ use Rattle.checks.proofs.WithinLaws.{lrc_value, lrc_never}
 use Rattle.ascii.proofs.ReadingLaws.{text_put}
 use Rattle.transports.proofs.lines.lay_many.Goals as goal
 
-pub returns-in-Refused : goal.returns-in-Refused
-returns-in-Refused c =
+pub returns-in-Err : goal.returns-in-Err
+returns-in-Err c =
     let s = c.args.bytes.now in
-    absurd (lrc_never _ s (length s) (omega arith) c.calc_lrc.ensures _ c.in-Refused.is)
+    absurd (lrc_never _ s (length s) (omega arith) c.calc_lrc.ensures _ c.in-Err.is)
 
-pub returns-in-Value : goal.returns-in-Value
-returns-in-Value c =
+pub returns-in-Ok : goal.returns-in-Ok
+returns-in-Ok c =
     let a = c.args in
     let s = c.args.bytes.now in (
-      lrc_value _ s (length s) (omega arith) c.calc_lrc.ensures _ c.in-Value.is ∙ ap lrc (take-length s),
+      lrc_value _ s (length s) (omega arith) c.calc_lrc.ensures _ c.in-Ok.is ∙ ap lrc (take-length s),
       text_put a.dst.now 1 s _ _ c.put_text.ensures (omega arith),
     )
