@@ -15,9 +15,9 @@ pub returns : goal.returns
 returns c =
     let s = c.args.frame.now in
     elim c.match-frame.branch [
-      in-Some+in_ok-except w ↦
-        final_set s c.args.response.now c.seal.result _ _ _ w.in-Some.is _ _ _ _ _ w.frame-is w.response-is w.in_ok-except.was w.except.ensures
-        c.seal.ensures
-    | in_default w ↦
-        final_unset s c.args.response.now c.seal.result _ _ _ _ w.frame-is w.response-is w.in_default.is c.seal.ensures
+      | in-Some+in_ok-except w ↦
+          final_set s c.args.response.now c.seal.result _ _ _ w.in-Some.is _ _ _ _ _ w.frame-is w.response-is w.in_ok-except.was w.except.ensures
+          c.seal.ensures
+      | in_default w ↦
+          final_unset s c.args.response.now c.seal.result _ _ _ _ w.frame-is w.response-is w.in_default.is c.seal.ensures
     ]

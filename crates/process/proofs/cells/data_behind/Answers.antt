@@ -10,8 +10,8 @@ use Rattle.process.proofs.cells.data_behind.Goals.{then-buf-start-via-then-buf-s
 pub returns-then-buf-start : goal.returns-then-buf-start
 returns-then-buf-start c =
     elim c.then-buf-start.branch [
-      then-buf-start-via-then-buf-start w ↦ sym (ap told (fail _ _ _ (λ k. omega arith)))
-    | then-buf-start-via-else-buf-start+then-buf-start-lt7 w ↦ sym (ap told (fail _ _ _ (λ k. omega arith)))
+      | then-buf-start-via-then-buf-start w ↦ sym (ap told (fail _ _ _ (λ k. omega arith)))
+      | then-buf-start-via-else-buf-start+then-buf-start-lt7 w ↦ sym (ap told (fail _ _ _ (λ k. omega arith)))
     ]
 
 pub returns-then-buf-start-2 : goal.returns-then-buf-start-2

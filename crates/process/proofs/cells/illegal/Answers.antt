@@ -16,8 +16,8 @@ pub returns-then-value-ne65280 : goal.returns-then-value-ne65280
 returns-then-value-ne65280 c =
     rw c.in-Bits.is
     elim (eqb_tells c.args.value 0) [
-      inl p ↦ rw p.0 (sym (pick_yes (legal? bit _) _ _ (inr p.1)))
-    | inr p ↦ rw p.0 (sym (pick_no (legal? bit _) _ _ (⊎_elim c.if-value-ne65280.true p.1)))
+      | inl p ↦ rw p.0 (sym (pick_yes (legal? bit _) _ _ (inr p.1)))
+      | inr p ↦ rw p.0 (sym (pick_no (legal? bit _) _ _ (⊎_elim c.if-value-ne65280.true p.1)))
     ]
 
 pub returns-else-value-ne65280 : goal.returns-else-value-ne65280
