@@ -65,7 +65,7 @@ impl ModbusFrame {
             }
             Ok(f) => {
                 self.func = f;
-                self.request(f, broadcast, given, buf)
+                self.request(broadcast, given, buf)
             }
         }
     }
@@ -73,24 +73,17 @@ impl ModbusFrame {
     fn answer_unsupported(&mut self, broadcast: bool)
         ensures { self.new ≡ unsupported broadcast self.old }
     {
-        if broadcast {
-            return;
+        if !broadcast {
+            self.response_required = true;
+            self.error = Some(1);
         }
-        self.response_required = true;
-        self.error = Some(1);
     }
 
-    fn request(
-        &mut self,
-        f: ModbusFunction,
-        broadcast: bool,
-        given: ModbusFrame,
-        buf: &[u8],
-    ) -> Result<(), ErrorKind>
+    fn request(&mut self, broadcast: bool, given: ModbusFrame, buf: &[u8]) -> Result<(), ErrorKind>
         requires { self.old.frame_start < length buf.now }
-        ensures { (out : List ℕ) → left_paper result self.new out ≡ ended (requested (ported_of f) broadcast given self.old buf.now out) }
+        ensures { (out : List ℕ) → left_paper result self.new out ≡ ended (requested (ported_of self.old.func) broadcast given self.old buf.now out) }
     {
-        match f {
+        match self.func {
             ModbusFunction::GetCoils | ModbusFunction::GetDiscretes => {
                 self.request_read(2000, broadcast, buf)
             }

@@ -1,5 +1,5 @@
-// What the crate adds to a response, apart from the state of a frame. Each call is lent the response's length and makes it that of what then
-// stands: on a refusal too, for what came before it stays.
+// What the crate adds to a response, apart from the state of a frame. The slice is the caller's and its length a field of the state (document
+// 01), so they are lent apart. Each call makes the length that of what then stands: on a refusal too, for what came before it stays.
 #![tactic(auto)]
 
 ghost use Rattle.std.specs.Prelude.{true, false, ◌≡◌, ◌≤◌, length};

@@ -18,7 +18,7 @@ use Rattle.frame.specs.State.{state_of, fresh, After, well}
 use Rattle.frame.specs.Parse.{frame_parsed}
 use Rattle.frame.proofs.Boundaries.{computing}
 use Rattle.frame.specs.declared.ModbusFunction.TheVariants.{GetHoldings, SetHolding}
-use Rattle.std.specs.Prelude.{Option, Some, None}
+use Rattle.std.specs.Prelude.{Some, None}
 use Rattle.frame.specs.declared.ModbusFrame.{ModbusFrame}
 use Rattle.process.specs.Process.{legal?, read_processed, one_written, Wrote, wrote, write_processed, finalized}
 

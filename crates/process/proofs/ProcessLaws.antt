@@ -1,20 +1,17 @@
 -- Each way out of `process_read`, `process_write` and `finalize_response`, from their last steps to their first.
 -- Assumes nothing.
-use mathlib.Core.Logic.{inl, inr}
 use mathlib.Core.Path.{◌≡◌, refl, sym, ap, ◌∙◌}
 use mathlib.Core.List.{List}
 use Prim.Native.Nat.{ℕ, ◌+◌, ◌-◌, ◌≤◌, ◌<◌}
 use native.Mathlib.Omega.{arith}
-use lib.Dec.{eqb}
 use lib.ListN.{length, get_or, take, drop}
 use Rattle.std.specs.Prelude.{Option, Some, None, Result, Ok, Err, ⊤}
 use Rattle.modbus.specs.Step.{Step, stop, go, ◌>>=◌, choose, ◌≟◌}
 use Rattle.modbus.specs.Table.{Kind, bit, word, target}
-use Rattle.modbus.specs.Ported.{Ported, reads}
-use Rattle.modbus.specs.Storage.{Storage, packed, storage}
-use Rattle.modbus.specs.Paper.{number, told, done_paper, paper, digit_of, told_with}
+use Rattle.modbus.specs.Storage.{Storage, storage}
+use Rattle.modbus.specs.Paper.{number, told, done_paper, paper, told_with}
 use Rattle.modbus.specs.declared.ErrorKind.{ErrorKind}
-use Rattle.modbus.specs.declared.ErrorKind.TheVariants.{OOB, OOBContext, ReadCallOnWriteFrame}
+use Rattle.modbus.specs.declared.ErrorKind.TheVariants.{OOB, OOBContext}
 use Rattle.modbus.proofs.StepLaws.{pass, fail, follow, halt, bound, needed, pick_yes, pick_no}
 use Rattle.modbus.proofs.PaperLaws.{told_same, value_with, refusal_with}
 use Rattle.tables.specs.Calls.{added, changed}
