@@ -5,7 +5,7 @@ use lib.Seq.{sets}
 use Rattle.response.proofs.copy_block.Given as goal
 
 abbrev pub invariant-loop-i : goal.invariant-loop-i
-invariant-loop-i l = (length l.block ≡ 32) × (take l.i l.block ≡ take l.i l.b-items)
+invariant-loop-i l = (length l.block ≡ 32) × (take l.i l.block ≡ take l.i l.bytes)
 
 abbrev pub invariant-loop-i-2 : goal.invariant-loop-i-2
 invariant-loop-i-2 l = l.dst ≡ sets l.initial.dst l.at (take l.i l.b-items)
