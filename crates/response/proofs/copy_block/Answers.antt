@@ -1,6 +1,6 @@
 -- `response::copy_block` meets its contract.
 -- Assumes nothing.
-use Rattle.std.proofs.Common.{◌≡◌, length, take, sym, ap, ◌∙◌, arith, length-take, length-set}
+use Rattle.std.proofs.Common.{◌≡◌, length, take, ap, ◌∙◌, arith, length-set}
 use lib.Seq.{sets, take_all}
 use Rattle.response.proofs.BoundedLaws.{read_more, copied_more, copied_all}
 use Rattle.response.proofs.copy_block.Goals as goal

@@ -1,6 +1,6 @@
 -- `response::copy_power` meets its contract: the quotient by k is even, or it is odd.
 -- Assumes nothing.
-use Rattle.std.proofs.Common.{length, sym, arith}
+use Rattle.std.proofs.Common.{length, arith}
 use Rattle.response.proofs.BoundedLaws.{power_none, power_one, power_within}
 use Rattle.response.proofs.copy_power.Goals as goal
 

@@ -1,6 +1,6 @@
 -- `response::resize` meets its contract: where the end is cut, nothing is filled.
 -- Assumes nothing.
-use Rattle.std.proofs.Common.{◌≡◌, ◌-◌, length, take, drop, replicate, sym, ap, ◌∙◌, arith, length-take, length-drop}
+use Rattle.std.proofs.Common.{◌≡◌, ◌-◌, length, take, drop, replicate, sym, ap, arith, length-take, length-drop}
 use lib.ListN.{length-replicate}
 use Rattle.modbus.specs.Paper.{told_with}
 use Rattle.response.proofs.BoundedLaws.{resized_fits, resized_long, resized_full, part_put}
