@@ -2,9 +2,11 @@
 -- Assumes nothing.
 use Rattle.modbus.specs.declared.ErrorKind.{ErrorKind}
 use Rattle.std.specs.Prelude.{Result, Ok}
-use Rattle.std.proofs.Common.{◌≡◌, ℕ, zero, suc, ◌+◌, ◌-◌, ◌*◌, ◌/◌, ◌<◌, ◌≤◌, true, false, ◌⊎◌, List, [], ◌∷◌, length, get_or, take, drop, set, sym, refl, ap, ◌∙◌, inl, inr, ⊎_elim, add-one, arith, length-drop, length-set, drop_of_length-le, length-take}
+use Rattle.std.proofs.Common.{◌≡◌, ℕ, zero, suc, ◌+◌, ◌-◌, ◌*◌, ◌/◌, ◌<◌, ◌≤◌, true, false, ◌⊎◌, List, [], ◌∷◌, ◌++◌, length, get_or, take, drop, set, sym, refl, ap, ◌∙◌, inl, inr, ⊎_elim, add-one, arith, length-drop, length-set, drop_of_length-le, length-take, drop-cons, append_assoc, zero-add}
+use Rattle.std.proofs.lemmas.List.{get_or-drop, drop-drop, drop-append-le, take-append-drop}
+use borrow.Rule.Slice.PartMut.{put_mid}
 use lib.Bits.{bit_or, or_add_and, and_le_l, and_le_r}
-use lib.Seq.{sets}
+use lib.Seq.{sets, sets-eq}
 use Rattle.modbus.specs.Step.{go, choose, ◌≤?◌, ◌≟◌}
 use Rattle.modbus.specs.Bytes.{All}
 use Rattle.modbus.specs.Paper.{told, paper}
@@ -134,6 +136,57 @@ pub digits_two : (s : List ℕ) (e k : ℕ) → All Digit (drop k (take e s)) �
     → Digit (get_or s k 0) × Digit (get_or s (k + 1) 0) × All Digit (drop (k + 2) (take e s))
 digits_two s e k d h j = let f = rw (from_two s e k h j) at d in (f.0, f.1.0, f.1.1)
 
+-- a chunk of two, and what stands behind it
+pub chunk_two : (s p r : List ℕ) (k : ℕ) → drop k s ≡ p ++ r → length p ≡ 2
+    → (get_or s k 0 ≡ get_or p 0 0) × (get_or s (k + 1) 0 ≡ get_or p 1 0) × (drop (k + 2) s ≡ r)
+chunk_two s [] r k e h = absurd (omega arith)
+chunk_two s (x ∷ []) r k e h = absurd (omega arith)
+chunk_two s (x ∷ y ∷ z ∷ p) r k e h = absurd (omega arith)
+chunk_two s (x ∷ y ∷ []) r k e h =
+    let z : k + 0 ≡ k = omega arith in (
+      sym (rw z at (get_or-drop k s 0 0)) ∙ ap (λ (t : List ℕ). get_or t 0 0) e,
+      sym (get_or-drop k s 1 0) ∙ ap (λ (t : List ℕ). get_or t 1 0) e,
+      sym (drop-drop 2 k s) ∙ ap (drop 2) e,
+    )
+
+module _ (r p q : List ℕ) (e : r ≡ p ++ q) (h : length p ≡ 2) where
+  pub chunk_digits : All Digit r → Digit (get_or p 0 0) × Digit (get_or p 1 0) × All Digit q
+  chunk_digits d = by p (rw e at d) h
+    where
+      by : (p : List ℕ) → All Digit (p ++ q) → length p ≡ 2 → Digit (get_or p 0 0) × Digit (get_or p 1 0) × All Digit q
+      by [] d h = absurd (omega arith)
+      by (x ∷ []) d h = absurd (omega arith)
+      by (x ∷ y ∷ z ∷ p) d h = absurd (omega arith)
+      by (x ∷ y ∷ []) d h = (d.0, d.1.0, d.1.1)
+
+  pub chunk_values : pair_values r ≡ (value (get_or p 0 0) * 16 + value (get_or p 1 0)) ∷ pair_values q
+  unfolding pair_values
+  chunk_values = ap pair_values e ∙ by p h
+    where
+      by : (p : List ℕ) → length p ≡ 2 → pair_values (p ++ q) ≡ (value (get_or p 0 0) * 16 + value (get_or p 1 0)) ∷ pair_values q
+      by [] h = absurd (omega arith)
+      by (x ∷ []) h = absurd (omega arith)
+      by (x ∷ y ∷ z ∷ p) h = absurd (omega arith)
+      by (x ∷ y ∷ []) h = refl
+
+-- a part of a list that has come back with something at its front
+pub part_set : (xs vs ys : List ℕ) (a k : ℕ) → ys ≡ sets (take k (drop a xs)) 0 vs → length vs ≤ k → a + k ≤ length xs
+    → put_mid a k xs ys ≡ sets xs a vs
+part_set xs vs ys a k e h j =
+    let part = take k (drop a xs) in
+    let n : length part ≡ k = simp (length-take, length-drop) (omega arith) in
+    let f : sets part 0 vs ≡ vs ++ drop (0 + length vs) part = sets-eq vs part 0 (omega arith) in
+    let d : drop (length vs) part ++ drop k (drop a xs) ≡ drop (length vs) (drop a xs) =
+    sym (drop-append-le (length vs) part (drop k (drop a xs)) (omega arith)) ∙ ap (drop (length vs)) (take-append-drop k (drop a xs)) in
+    let g : sets xs a vs ≡ take a xs ++ vs ++ drop (a + length vs) xs = sets-eq vs xs a (omega arith) in
+    rw (e, f, zero-add, append_assoc, d, drop-drop, g, append_assoc)
+
+-- no pairs are left
+pub values_none : (r bytes z : List ℕ) (i : ℕ) → length r ≤ 0 → sets bytes i (pair_values r) ≡ z → bytes ≡ z
+unfolding pair_values
+values_none [] bytes z i h e = e
+values_none (x ∷ r) bytes z i h e = absurd (omega arith)
+
 pub values_step : (s : List ℕ) (e k : ℕ) (buf : List ℕ) (p x y : ℕ) (z : List ℕ) → sets buf p (pair_values (drop k (take e s))) ≡ z
     → k + 1 < e → e ≤ length s → x ≡ value (get_or s k 0) → y ≡ value (get_or s (k + 1) 0)
     → sets (set buf p (x * 16 + y)) (suc p) (pair_values (drop (k + 2) (take e s))) ≡ z
@@ -163,10 +216,10 @@ or_none o x q =
     (omega arith, omega arith)
 
 -- no other character so far, where the digits from k on are digits
-pub others_step : (s : List ℕ) (e k o x : ℕ) (P : Type 0) → (o ≡ 0 → All Digit (drop k (take e s)) → P) → k < e → e ≤ length s
-    → (x ≡ 0 → Digit (get_or s k 0)) → bit_or o x ≡ 0 → All Digit (drop (k + 1) (take e s)) → P
-others_step s e k o x P inv h j d q r =
-    let n = or_none o x q in inv n.0 (rw (text_from s e k h j) (d n.1, r))
+pub others_step : (s : List ℕ) (k o x : ℕ) (P : Type 0) → (o ≡ 0 → All Digit (drop k s) → P) → k < length s
+    → (x ≡ 0 → Digit (get_or s k 0)) → bit_or o x ≡ 0 → All Digit (drop (k + 1) s) → P
+others_step s k o x P inv h d q r =
+    let n = or_none o x q in inv n.0 (rw (drop-cons s k 0 h) (d n.1, (rw (add-one k) at r)))
 
 pub others_done : (s : List ℕ) (e k : ℕ) → e ≤ k → All Digit (drop k (take e s))
 others_done s e k h =

@@ -1,12 +1,10 @@
--- What the code reads at a place of the text, as the step that it is in a reading.
+-- What the code reads of two digits, as the step that it is in a reading.
 -- Assumes nothing.
-use Rattle.std.specs.Prelude.{ℕ}
+use Rattle.std.specs.Prelude.{ℕ, Result, Ok, Err}
 use Rattle.modbus.specs.Step.{Step, stop, go}
-use Rattle.ascii.specs.Reading.{Ending, finished, refused}
-use Rattle.ascii.specs.declared.reading.Pair.{Pair}
-use Rattle.ascii.specs.declared.reading.Pair.TheVariants as pair
+use Rattle.modbus.specs.declared.ErrorKind.{ErrorKind}
+use Rattle.ascii.specs.Reading.{Ending, refused}
 
-abbrev pub said : Pair → Step Ending ℕ
-said (pair.Byte b) = go b
-said pair.Stop = stop finished
-said (pair.Refused k) = stop (refused k)
+abbrev pub said : Result ℕ ErrorKind → Step Ending ℕ
+said (Ok b) = go b
+said (Err k) = stop (refused k)

@@ -20,13 +20,11 @@ use writing::{fits, lay_text, write_line, write_while_room};
 pub fn other(c: u8) -> u8
     ensures { result ≡ choose (digit? c) 0 1 }
 {
-    if wrapping_sub_u8(c, 48) < 10 {
-        return 0;
+    if wrapping_sub_u8(c, b'0') < 10 || wrapping_sub_u8(c, b'A') < 6 {
+        0
+    } else {
+        1
     }
-    if wrapping_sub_u8(c, 65) < 6 {
-        return 0;
-    }
-    1
 }
 
 // Decodes the first `data_len` bytes of the data into the frame buffer from `frame_pos` on, and answers how many bytes that gave. Digits a-f
@@ -46,7 +44,7 @@ pub fn parse_text(
     }
     let from = colon(data[0]);
     let n = (data_len - from) / 2;
-    decode_pairs(data, from, n, frame_buf, at);
+    decode_pairs(&data[from..data_len], &mut frame_buf[at..at + n]);
     Ok(n as u8)
 }
 
@@ -70,34 +68,14 @@ pub fn parse_ascii_frame(
 pub fn low_digit(b: u8) -> u8
     ensures { result ≡ digit (b % 16) }
 {
-    match b % 16 {
-        0 => 48,
-        1 => 49,
-        2 => 50,
-        3 => 51,
-        4 => 52,
-        5 => 53,
-        6 => 54,
-        7 => 55,
-        8 => 56,
-        9 => 57,
-        10 => 65,
-        11 => 66,
-        12 => 67,
-        13 => 68,
-        14 => 69,
-        _ => 70,
-    }
+    b"0123456789ABCDEF"[(b % 16) as usize]
 }
 
 // Puts the bytes as text to the places from `at` on, and says whether there was room for it; else nothing is put.
 pub fn put_text(dst: &mut [u8], at: usize, bytes: &[u8]) -> bool
     ensures { (result, dst.new) ≡ put_text dst.old at bytes.now }
 {
-    if dst.len() < at {
-        return false;
-    }
-    if (dst.len() - at) / 2 < bytes.len() {
+    if dst.len() < at || (dst.len() - at) / 2 < bytes.len() {
         return false;
     }
     lay_text(dst, at, bytes);

@@ -1,7 +1,6 @@
 // Bytes into text.
-ghost use Rattle.std.specs.Prelude.{◌≡◌, ◌+◌, ◌*◌, ◌<◌, ◌≤◌, true, false, length};
+ghost use Rattle.std.specs.Prelude.{◌≡◌, ◌+◌, ◌*◌, ◌<◌, ◌≤◌, ◌↔◌, IsTrue, length};
 ghost use Rattle.std.proofs.lemmas.List.Edits.{sets};
-ghost use Rattle.modbus.specs.Step.{choose, ◌≤?◌};
 ghost use Rattle.modbus.specs.Paper.{paper};
 ghost use Rattle.modbus.specs.Hex.{digit, text};
 ghost use Rattle.modbus.specs.Frame.{line};
@@ -17,30 +16,21 @@ fn character(h: u8) -> u8
     ensures { result ≡ digit h }
 {
     let more: u8 = if h < 10 { 0 } else { 7 };
-    h + 48 + more
+    h + b'0' + more
 }
 
 // Puts two bytes, and says whether there was room for both.
 fn put_two(dst: &mut [u8], at: usize, first: u8, second: u8) -> bool
     ensures { (result, dst.new) ≡ put_two dst.old at first second }
 {
-    if !put_byte(dst, at, first) {
-        return false;
-    }
-    put_byte(dst, at + 1, second)
+    put_byte(dst, at, first) && put_byte(dst, at + 1, second)
 }
 
 // Whether a line of n bytes fits.
 pub(crate) fn fits(n: usize, room: usize) -> bool
-    ensures { result ≡ choose (2 * n + 3 ≤? room) true false }
+    ensures { IsTrue result ↔ 2 * n + 3 ≤ room }
 {
-    if room < 3 {
-        return false;
-    }
-    if (room - 3) / 2 < n {
-        return false;
-    }
-    true
+    3 <= room && n <= (room - 3) / 2
 }
 
 // Lays the bytes as text, two characters each, to the places from `at` on.
@@ -48,8 +38,7 @@ pub(crate) fn lay_text(dst: &mut [u8], at: usize, bytes: &[u8])
     requires { at + 2 * length bytes.now ≤ length dst.old }
     ensures { dst.new ≡ sets dst.old at (text bytes.now) }
 {
-    for i in 0..bytes.len() {
-        let b = bytes[i];
+    for (i, b) in bytes.iter().enumerate() {
         dst[at + 2 * i] = character(b >> 4);
         dst[at + 2 * i + 1] = character(b & 0xf);
     }
@@ -60,28 +49,27 @@ pub(crate) fn write_line(data: &[u8], res: &mut [u8])
     requires { 2 * length «data».now + 3 ≤ length res.old }
     ensures { res.new ≡ sets res.old 0 (line «data».now) }
 {
-    res[0] = 58;
+    res[0] = b':';
     lay_text(res, 1, data);
-    res[2 * data.len() + 1] = 0x0D;
-    res[2 * data.len() + 2] = 0x0A;
+    res[2 * data.len() + 1] = b'\r';
+    res[2 * data.len() + 2] = b'\n';
 }
 
 // The same as far as there is room, character by character.
 pub(crate) fn write_while_room(data: &[u8], res: &mut [u8]) -> Result<usize, ErrorKind>
     ensures { (paper result, res.new) ≡ generated_into «data».now res.old }
 {
-    if !put_byte(res, 0, 58) {
+    if !put_byte(res, 0, b':') {
         return Err(ErrorKind::OOB);
     }
     let mut at: usize = 1;
-    for i in 0..data.len() {
-        let d = data[i];
+    for d in data {
         if !put_two(res, at, character(d >> 4), character(d & 0xf)) {
             return Err(ErrorKind::OOB);
         }
         at += 2;
     }
-    if !put_two(res, at, 0x0D, 0x0A) {
+    if !put_two(res, at, b'\r', b'\n') {
         return Err(ErrorKind::OOB);
     }
     Ok(at + 2)

@@ -16,8 +16,7 @@ pub fn frame_start(proto: ModbusProto, start: usize, buf: &[u8]) -> Result<usize
     ensures { paper result ≡ told (begins proto start buf.now) }
 {
     match proto {
-        ModbusProto::Rtu => Ok(start),
-        ModbusProto::Ascii => Ok(start),
+        ModbusProto::Rtu | ModbusProto::Ascii => Ok(start),
         ModbusProto::TcpUdp => after_header(buf),
     }
 }
@@ -25,20 +24,13 @@ pub fn frame_start(proto: ModbusProto, start: usize, buf: &[u8]) -> Result<usize
 fn after_header(buf: &[u8]) -> Result<usize, ErrorKind>
     ensures { paper result ≡ told (begins proto.TcpUdp 0 buf.now) }
 {
-    if buf.len() < 6 {
+    if buf.len() < 6 || word(buf, 2) != 0 {
         return Err(ErrorKind::FrameBroken);
     }
-    if word(buf, 2) != 0 {
-        return Err(ErrorKind::FrameBroken);
+    match word(buf, 4) {
+        6..=250 => Ok(6),
+        _ => Err(ErrorKind::FrameBroken),
     }
-    let length = word(buf, 4);
-    if length < 6 {
-        return Err(ErrorKind::FrameBroken);
-    }
-    if length > 250 {
-        return Err(ErrorKind::FrameBroken);
-    }
-    Ok(6)
 }
 
 // Whether the crate, which counts the bytes of a serial frame's check in a byte, overflows at so many.
@@ -46,8 +38,7 @@ pub fn overflows(proto: ModbusProto, len: usize) -> bool
     ensures { result ≡ choose (countable? proto len) false true }
 {
     match proto {
-        ModbusProto::Rtu => 255 < len,
-        ModbusProto::Ascii => 255 < len,
+        ModbusProto::Rtu | ModbusProto::Ascii => 255 < len,
         ModbusProto::TcpUdp => false,
     }
 }
@@ -73,17 +64,13 @@ fn check_counted(proto: ModbusProto, buf: &[u8], start: usize, len: usize) -> Re
 {
     match proto {
         ModbusProto::Rtu => {
-            let crc = calc_crc16(buf, len as u8);
-            let check = [(crc % 256) as u8, (crc / 256) as u8];
+            let check = calc_crc16(buf, len as u8).to_le_bytes();
             follows(buf, start, len, &check)
         }
-        ModbusProto::Ascii => match calc_lrc(buf, len as u8) {
-            Err(k) => Err(k),
-            Ok(lrc) => {
-                let check = [lrc];
-                follows(buf, start, len, &check)
-            }
-        },
+        ModbusProto::Ascii => {
+            let check = [calc_lrc(buf, len as u8)?];
+            follows(buf, start, len, &check)
+        }
         ModbusProto::TcpUdp => Ok(()),
     }
 }
@@ -92,20 +79,12 @@ fn check_counted(proto: ModbusProto, buf: &[u8], start: usize, len: usize) -> Re
 fn follows(buf: &[u8], start: usize, len: usize, check: &[u8]) -> Result<(), ErrorKind>
     ensures { done_paper result ≡ told (follows buf.now (start + len) check.now) }
 {
-    if buf.len() < start {
-        return Err(ErrorKind::FrameBroken);
-    }
-    if buf.len() - start < len {
+    if buf.len() < start || buf.len() - start < len || buf.len() - start - len < check.len() {
         return Err(ErrorKind::FrameBroken);
     }
     let at = start + len;
-    if buf.len() - at < check.len() {
-        return Err(ErrorKind::FrameBroken);
-    }
-    for i in 0..check.len() {
-        if buf[at + i] != check[i] {
-            return Err(ErrorKind::FrameCRCError);
-        }
+    if &buf[at..at + check.len()] != check {
+        return Err(ErrorKind::FrameCRCError);
     }
     Ok(())
 }

@@ -1,20 +1,17 @@
--- One law for each way out of the calls on a bounded response, and one more byte of what is put into it.
+-- One law for each way out of the calls on a bounded response, and what a part of it comes back with.
 -- Assumes nothing.
-use mathlib.Core.Path.{◌≡◌, sym, ap, ◌∙◌}
-use mathlib.Core.List.{List, [], ◌∷◌, ◌++◌}
-use Prim.Native.Nat.{ℕ, suc, ◌+◌, ◌*◌, ◌-◌, ◌/◌, ◌%◌, ◌≤◌, ◌<◌}
+use Rattle.std.proofs.Common.{◌≡◌, ℕ, suc, [], ◌∷◌, get_or, set, add-one, ◌+◌, ◌-◌, ◌*◌, ◌/◌, ◌%◌, ◌≤◌, ◌<◌, List, ◌++◌, length, take, drop, replicate, sym, ap, ◌∙◌, append_assoc, arith}
 use native.Mathlib.Nat.{add-mul, mul_assoc, mul_comm, div-mul-le_self, div-div-eq-div-mul}
-use native.Mathlib.Omega.{arith}
-use native.Mathlib.Numerals.{add-one}
-use lib.ListN.{length, get_or, take, drop, set, replicate, length-drop, length-replicate, replicate-append-replicate}
-use lib.Seq.{sets, take-suc, take-suc-set, take_all, take-add, get_or-drop, length-take-le}
+use Rattle.modbus.proofs.BytesLaws.{sets_append}
+use Rattle.std.proofs.lemmas.List.{drop-drop}
+use lib.Seq.{sets, sets-eq, take-suc, take-suc-set, take_all, take-add, length-take-le}
+use borrow.Rule.Slice.PartMut.{put_mid}
 use Rattle.modbus.specs.declared.ErrorKind.{ErrorKind}
 use Rattle.std.specs.Prelude.{Result}
 use Rattle.modbus.specs.Step.{stop, go, ◌≤?◌}
 use Rattle.modbus.specs.Paper.{told_with, paper}
 use Rattle.modbus.specs.declared.ErrorKind.TheVariants.{OOB}
 use Rattle.modbus.proofs.StepLaws.{pass, fail}
-use Rattle.modbus.proofs.BytesLaws.{sets_append}
 use Rattle.response.specs.Bounded.{extended, resized, cut}
 
 -- ---- ways out
@@ -58,7 +55,13 @@ pub cut_long : (out : List ℕ) (len n : ℕ) → length out < len → cut out l
 unfolding cut
 cut_long out len n h = fail _ _ _ (λ k. omega arith)
 
--- ---- one byte more
+-- a part of a list that has come back with as many bytes
+pub part_put : (l m d : List ℕ) (at n : ℕ) → m ≡ d → n ≡ length d → at + n ≤ length l → put_mid at n l m ≡ sets l at d
+part_put l m d at n f e h =
+    let g : sets l at d ≡ take at l ++ d ++ drop (at + length d) l = sets-eq d l at (omega arith) in
+    rw (f, e, drop-drop, g, append_assoc)
+
+-- ---- blocks
 
 sets_snoc : (l : List ℕ) (at : ℕ) (d : List ℕ) (v : ℕ) → set (sets l at d) (at + length d) v ≡ sets l at (d ++ (v ∷ []))
 sets_snoc l at [] v = ap (λ (k : ℕ). set l k v) (omega arith)
@@ -83,12 +86,10 @@ copied_on l m after at d i k e h j f =
     rw (f, e) (sym (sets_append (take i d) (take (k - i) (drop i d)) l at (at + i) (omega arith)))
     ∙ ap (sets l at) (sym (take-add i (k - i) d) ∙ ap (λ (x : ℕ). take x d) z)
 
--- of bytes read into an array from `from` on, of which i are there
-pub read_more : (array d : List ℕ) (from i : ℕ) → take i array ≡ take i (drop from d) → i < length array → from + i < length d
-    → take (i + 1) (set array i (get_or d (from + i) 0)) ≡ take (i + 1) (drop from d)
-read_more array d from i e h k =
-    let j : i < length (drop from d) = simp length-drop (omega arith) in
-    rw (add-one, take-suc-set array i _ h, take-suc (drop from d) i 0 j, get_or-drop from d i 0, e)
+-- of bytes read into an array, of which i are there
+pub read_more : (array d : List ℕ) (i : ℕ) → take i array ≡ take i d → i < length array → i < length d
+    → take (i + 1) (set array i (get_or d i 0)) ≡ take (i + 1) d
+read_more array d i e h k = rw (add-one, take-suc-set array i _ h, take-suc d i 0 k, e)
 
 -- the multiple of k in n: that of twice k, and k more where the quotient is odd
 module _ (n k : ℕ) where
@@ -108,11 +109,3 @@ module _ (n k : ℕ) where
 
   pub power_within : ¬ (n / k % 2 ≡ 0) → n / (k * 2) * (k * 2) + k ≤ n
   power_within h = omega (arith, power_one h, div-mul-le_self n k)
-
--- of places filled, of which those before i are done
-pub filled_more : (l m : List ℕ) (at i v : ℕ) → m ≡ sets l at (replicate (i - at) v) → at ≤ i
-    → set m i v ≡ sets l at (replicate (i + 1 - at) v)
-filled_more l m at i v e h =
-    let k : i + 1 - at ≡ i - at + 1 = omega arith in
-    let n : at + (i - at) ≡ i = omega arith in
-    rw (k, ← replicate-append-replicate, ← sets_snoc, length-replicate, n, e)

@@ -18,18 +18,18 @@ pub fn push(response: &mut [u8], len: usize, value: u8) -> Result<usize, ErrorKi
     Ok(len + 1)
 }
 
-// The n bytes of `src` from `from` on go to the places of `dst` from `at` on. All are read before the first is written: so the compiler
-// moves them at once.
-fn copy_block(dst: &mut [u8], at: usize, src: &[u8], from: usize, n: usize)
-    requires { (n ≤ 32) × (from + n ≤ length src.now) × (at + n ≤ length dst.old) }
-    ensures { dst.new ≡ sets dst.old at (take n (drop from src.now)) }
+// The bytes, 32 at most, go to the places of `dst` from `at` on. All are read before the first is written: so the compiler moves them at
+// once. `copy_from_slice` is a call: a read of two registers over TCP takes 3 per cent more by it.
+fn copy_block(dst: &mut [u8], at: usize, bytes: &[u8])
+    requires { (length bytes.now ≤ 32) × (at + length bytes.now ≤ length dst.old) }
+    ensures { dst.new ≡ sets dst.old at bytes.now }
 {
     let mut block = [0u8; 32];
-    for i in 0..n {
-        block[i] = src[from + i];
+    for (i, b) in bytes.iter().enumerate() {
+        block[i] = *b;
     }
-    for i in 0..n {
-        dst[at + i] = block[i];
+    for (i, b) in block[..bytes.len()].iter().enumerate() {
+        dst[at + i] = *b;
     }
 }
 
@@ -42,7 +42,7 @@ fn copy_power(dst: &mut [u8], at: usize, src: &[u8], done: usize, k: usize) -> u
     if src.len() / k % 2 == 0 {
         return done;
     }
-    copy_block(dst, at + done, src, done, k);
+    copy_block(dst, at + done, &src[done..done + k]);
     done + k
 }
 
@@ -51,11 +51,10 @@ fn copy(dst: &mut [u8], at: usize, src: &[u8])
     requires { at + length src.now ≤ length dst.old }
     ensures { dst.new ≡ sets dst.old at src.now }
 {
-    let whole = src.len() / 32;
-    for k in 0..whole {
-        copy_block(dst, at + 32 * k, src, 32 * k, 32);
+    for (k, block) in src.chunks_exact(32).enumerate() {
+        copy_block(dst, at + 32 * k, block);
     }
-    let a = copy_power(dst, at, src, 32 * whole, 16);
+    let a = copy_power(dst, at, src, src.len() / 32 * 32, 16);
     let b = copy_power(dst, at, src, a, 8);
     let c = copy_power(dst, at, src, b, 4);
     let d = copy_power(dst, at, src, c, 2);
@@ -65,10 +64,7 @@ fn copy(dst: &mut [u8], at: usize, src: &[u8])
 pub fn extend(response: &mut [u8], len: usize, other: &[u8]) -> Result<usize, ErrorKind>
     ensures { (paper result, response.new) ≡ told_with response.old (extended response.old len other.now) }
 {
-    if response.len() < len {
-        return Err(ErrorKind::OOB);
-    }
-    if response.len() - len < other.len() {
+    if response.len() < len || response.len() - len < other.len() {
         return Err(ErrorKind::OOB);
     }
     copy(response, len, other);
@@ -83,14 +79,11 @@ pub fn resize(
 ) -> Result<usize, ErrorKind>
     ensures { (paper result, response.new) ≡ told_with response.old (resized response.old len new_len value) }
 {
-    if response.len() < len {
+    if response.len() < len || response.len() < new_len {
         return Err(ErrorKind::OOB);
     }
-    if response.len() < new_len {
-        return Err(ErrorKind::OOB);
-    }
-    for i in len..new_len {
-        response[i] = value;
+    if len < new_len {
+        response[len..new_len].fill(value);
     }
     Ok(new_len)
 }
@@ -102,10 +95,7 @@ pub fn cut_end(response: &[u8], len: usize, n: usize) -> Result<usize, ErrorKind
     if response.len() < len {
         return Err(ErrorKind::OOB);
     }
-    if len < n {
-        return Ok(0);
-    }
-    Ok(len - n)
+    Ok(len.saturating_sub(n))
 }
 
 pub fn clear(response: &[u8], len: usize) -> Result<usize, ErrorKind>

@@ -10,7 +10,8 @@ ghost use Rattle.modbus.specs.Storage.{coil_at, with_bit, packed, store, size};
 ghost use Rattle.tables.specs.Calls.{got, changed, added, stored};
 ghost use Rattle.tables.specs.Runs.{binary};
 
-use modbus::ErrorKind;
+use crate::size;
+use modbus::{CellKind, ErrorKind};
 
 fn bit_of(byte: u8, n: u8) -> bool
     requires { n < 8 }
@@ -28,24 +29,11 @@ fn with_bit(byte: u8, n: u8, on: bool) -> u8
     if on { byte | mask } else { byte & !mask }
 }
 
-// How many cells the table counts as, which its bytes hold.
-fn size_of(table: &[u8], cells: usize) -> usize
-    ensures { (result ≡ size packed table.now cells) × (result ≤ 8 * length table.now) × (result ≤ 65536) }
-{
-    if cells > 65536 {
-        return 0;
-    }
-    if (cells + 7) / 8 > table.len() {
-        return 0;
-    }
-    cells
-}
-
 pub fn get_coil(table: &[u8], cells: usize, reg: u16) -> Result<bool, ErrorKind>
     ensures { bit_paper result ≡ told (got packed table.now cells reg) }
 {
     let n = reg as usize;
-    if n >= size_of(table, cells) {
+    if n >= size(CellKind::Bits, table, cells) {
         return Err(ErrorKind::OOBContext);
     }
     Ok(bit_of(table[n / 8], (n % 8) as u8))
@@ -55,7 +43,7 @@ pub fn set_coil(table: &mut [u8], cells: usize, reg: u16, value: bool) -> Result
     ensures { (done_paper result, table.new) ≡ told_with table.old (changed packed table.old cells reg (digit_of value)) }
 {
     let n = reg as usize;
-    if n >= size_of(table, cells) {
+    if n >= size(CellKind::Bits, table, cells) {
         return Err(ErrorKind::OOBContext);
     }
     table[n / 8] = with_bit(table[n / 8], (n % 8) as u8, value);
@@ -67,7 +55,7 @@ fn window(low: u8, high: u8, shift: u8) -> u8
     requires { shift < 8 }
     ensures { result ≡ (high * 256 + low) / 2 ^ shift % 256 }
 {
-    let both = ((high as u16) << 8) | (low as u16);
+    let both = u16::from_le_bytes([low, high]);
     ((both >> shift) & 0xff) as u8
 }
 
@@ -128,8 +116,7 @@ fn show(dst: &mut [u8], at: usize, src: &[u8], from: usize, n: usize)
 fn head_of(at: usize, n: usize) -> usize
     ensures { result ≡ min n ((8 - at % 8) % 8) }
 {
-    let left = (8 - at % 8) % 8;
-    if n < left { n } else { left }
+    n.min((8 - at % 8) % 8)
 }
 
 // Cell `at` of dst becomes the first of src.
@@ -173,7 +160,7 @@ fn add_cells(
     }
     let from = reg as usize;
     let n = count as usize;
-    if from + n > size_of(table, cells) {
+    if from + n > size(CellKind::Bits, table, cells) {
         return Err(ErrorKind::OOBContext);
     }
     let end = len + (n + 7) / 8;
@@ -221,10 +208,7 @@ pub fn set_coils_from_u8(
 {
     let at = reg as usize;
     let n = count as usize;
-    if at + n > size_of(table, cells) {
-        return Err(ErrorKind::OOBContext);
-    }
-    if values.len() != (n + 7) / 8 {
+    if at + n > size(CellKind::Bits, table, cells) || values.len() != (n + 7) / 8 {
         return Err(ErrorKind::OOBContext);
     }
     put_all(table, at, values, n);

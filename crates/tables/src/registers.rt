@@ -4,26 +4,14 @@ ghost use Rattle.modbus.specs.Paper.{told, told_with, paper, done_paper};
 ghost use Rattle.modbus.specs.Storage.{registers, size};
 ghost use Rattle.tables.specs.Calls.{got, changed, added, stored_whole, named_in, named};
 
-use modbus::ErrorKind;
-
-// How many cells the table counts as, which its bytes hold.
-fn size(table: &[u8], cells: usize) -> usize
-    ensures { (result ≡ size registers table.now cells) × (2 * result ≤ length table.now) }
-{
-    if cells > 65536 {
-        return 0;
-    }
-    if table.len() < 2 * cells {
-        return 0;
-    }
-    cells
-}
+use crate::size;
+use modbus::{CellKind, ErrorKind};
 
 pub fn get_holding(table: &[u8], cells: usize, reg: u16) -> Result<u16, ErrorKind>
     ensures { paper result ≡ told (got registers table.now cells reg) }
 {
     let n = reg as usize;
-    if size(table, cells) <= n {
+    if size(CellKind::Words, table, cells) <= n {
         return Err(ErrorKind::OOBContext);
     }
     Ok(octets::word(table, 2 * n))
@@ -33,11 +21,12 @@ pub fn set_holding(table: &mut [u8], cells: usize, reg: u16, value: u16) -> Resu
     ensures { (done_paper result, table.new) ≡ told_with table.old (changed registers table.old cells reg value) }
 {
     let n = reg as usize;
-    if size(table, cells) <= n {
+    if size(CellKind::Words, table, cells) <= n {
         return Err(ErrorKind::OOBContext);
     }
-    table[2 * n] = (value / 256) as u8;
-    table[2 * n + 1] = (value % 256) as u8;
+    let [high, low] = value.to_be_bytes();
+    table[2 * n] = high;
+    table[2 * n + 1] = low;
     Ok(())
 }
 
@@ -57,12 +46,10 @@ fn add_part(
     }
     let first = reg as usize;
     let end = first + count as usize;
-    if size(table, cells) < end {
+    if size(CellKind::Words, table, cells) < end {
         return Err(ErrorKind::OOBContext);
     }
-    let a = 2 * first;
-    let e = 2 * end;
-    response::extend(response, len, &table[a..e])
+    response::extend(response, len, &table[2 * first..2 * end])
 }
 
 pub fn get_holdings_as_u8(
@@ -101,14 +88,10 @@ pub fn set_holdings_from_u8(
     ensures { (done_paper result, table.new) ≡ told_with table.old (stored_whole table.old cells reg values.now) }
 {
     let first = reg as usize;
-    if size(table, cells) < first + values.len() / 2 {
+    if size(CellKind::Words, table, cells) < first + values.len() / 2 || values.len() % 2 != 0 {
         return Err(ErrorKind::OOBContext);
     }
-    if values.len() % 2 != 0 {
-        return Err(ErrorKind::OOBContext);
-    }
-    let a = 2 * first;
-    let _ = response::extend(&mut table[a..], 0, values);
+    let _ = response::extend(&mut table[2 * first..], 0, values);
     Ok(())
 }
 
@@ -118,12 +101,10 @@ fn part_of<'a>(table: &'a [u8], cells: usize, reg: u16, count: u16) -> &'a [u8]
 {
     let first = reg as usize;
     let end = first + count as usize;
-    if size(table, cells) < end {
+    if size(CellKind::Words, table, cells) < end {
         return &table[0..0];
     }
-    let a = 2 * first;
-    let e = 2 * end;
-    &table[a..e]
+    &table[2 * first..2 * end]
 }
 
 // The part of the holdings or of the inputs that a register read names, uncopied.
@@ -138,11 +119,9 @@ pub fn read_registers<'a>(
 ) -> &'a [u8]
     ensures { (result.now, result.ref_ptr) ≡ named holdings.entry holding_cells inputs.entry input_cells function reg count }
 {
-    if function == 3 {
-        return part_of(holdings, holding_cells, reg, count);
+    match function {
+        3 => part_of(holdings, holding_cells, reg, count),
+        4 => part_of(inputs, input_cells, reg, count),
+        _ => &holdings[0..0],
     }
-    if function == 4 {
-        return part_of(inputs, input_cells, reg, count);
-    }
-    &holdings[0..0]
 }

@@ -9,11 +9,11 @@ use Rattle.checks.proofs.hex_to_chr.Goals as goal
 fits : (n v : ℕ) → n ≤ 200 → v ≡ digit n → ◌≡◌ {A = ℕ × ℕ} (0, v) (told (character n))
 fits n v h e = ap (λ (k : ℕ). (0, k)) e ∙ sym (ap told (character_fits n h))
 
-pub returns-then-h-lt10 : goal.returns-then-h-lt10
-returns-then-h-lt10 c = fits _ _ (omega arith) (omega (arith, digit_low c.args.h (omega arith)))
+pub returns-in-0-to-9 : goal.returns-in-0-to-9
+returns-in-0-to-9 c = fits _ _ (omega arith) (omega (arith, digit_low c.args.h (omega arith)))
 
-pub returns-then-h-le200 : goal.returns-then-h-le200
-returns-then-h-le200 c = fits _ _ (omega arith) (omega (arith, digit_high c.args.h (omega arith)))
+pub returns-in-10-to-200 : goal.returns-in-10-to-200
+returns-in-10-to-200 c = fits _ _ (omega arith) (omega (arith, digit_high c.args.h (omega arith)))
 
-pub returns-else-h-le200 : goal.returns-else-h-le200
-returns-else-h-le200 c = sym (ap told (character_none _ (omega arith)))
+pub returns-in_default : goal.returns-in_default
+returns-in_default c = sym (ap told (character_none _ (omega arith)))

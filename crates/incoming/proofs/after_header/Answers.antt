@@ -1,22 +1,23 @@
 -- `incoming::after_header` meets its contract: each way out is a law of a TCP header.
 -- Assumes nothing.
-use mathlib.Core.Path.{sym, ap}
-use native.Mathlib.Omega.{arith}
+use Rattle.std.proofs.Common.{sym, ap, arith}
 use Rattle.modbus.specs.Paper.{told}
 use Rattle.incoming.proofs.EnvelopeLaws.{header_short, header_foreign, header_length, tcp_begins}
 use Rattle.incoming.proofs.after_header.Goals as goal
+use Rattle.incoming.proofs.after_header.Goals.{then-buf-lt6-via-then-buf-lt6, then-buf-lt6-via-else-buf-lt6+then-word-ne0}
 
 pub returns-then-buf-lt6 : goal.returns-then-buf-lt6
-returns-then-buf-lt6 c = sym (ap told (header_short _ _ (omega arith)))
+returns-then-buf-lt6 c =
+    elim c.then-buf-lt6.branch [
+      | then-buf-lt6-via-then-buf-lt6 w ↦ sym (ap told (header_short _ _ (omega arith)))
+      | then-buf-lt6-via-else-buf-lt6+then-word-ne0 w ↦ sym (ap told (header_foreign _ _ (omega arith) (rw w.word.ensures at w.if-word-ne0.true)))
+    ]
 
-pub returns-then-word-ne0 : goal.returns-then-word-ne0
-returns-then-word-ne0 c = sym (ap told (header_foreign _ _ (omega arith) (rw c.word.ensures at c.if-word-ne0.true)))
+pub returns-in-6-to-250 : goal.returns-in-6-to-250
+returns-in-6-to-250 c = sym (ap told (tcp_begins _ _ (omega arith) (cc) (omega arith) (omega arith)))
 
-pub returns-then-length-lt6 : goal.returns-then-length-lt6
-returns-then-length-lt6 c = sym (ap told (header_length _ _ (omega arith) (cc) (λ h. omega arith)))
+pub returns-in_default : goal.returns-in_default
+returns-in_default c = sym (ap told (header_length _ _ (omega arith) (cc) (λ h. omega arith)))
 
-pub returns-then-length-gt250 : goal.returns-then-length-gt250
-returns-then-length-gt250 c = sym (ap told (header_length _ _ (omega arith) (cc) (λ h. omega arith)))
-
-pub returns : goal.returns
-returns c = sym (ap told (tcp_begins _ _ (omega arith) (cc) (omega arith) (omega arith)))
+pub returns-in_default-2 : goal.returns-in_default-2
+returns-in_default-2 c = sym (ap told (header_length _ _ (omega arith) (cc) (λ h. omega arith)))

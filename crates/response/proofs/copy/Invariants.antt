@@ -1,13 +1,14 @@
 -- `response::copy` meets its contract. The loop's invariant: k blocks are copied. Each call behind it copies more, the last up to the end.
 -- Assumes nothing.
-use mathlib.Core.Path.{◌≡◌}
-use Prim.Native.Nat.{◌*◌, ◌-◌, ◌≤◌}
-use lib.ListN.{length, take}
+use Rattle.std.proofs.Common.{◌≡◌, ◌*◌, ◌≤◌, length, take, drop}
+use Rattle.std.specs.Iterator.Adapters.{enumerate_source, enumerate_count}
+use Rattle.std.specs.Slice.Iter.{chunks_exact_rest, chunks_exact_size}
 use lib.Seq.{sets}
 use Rattle.response.proofs.copy.Given as goal
 
 abbrev pub invariant-loop-k : goal.invariant-loop-k
-invariant-loop-k l = (l.k ≤ l.whole) × (length l.dst ≡ length l.initial.dst) × (l.dst ≡ sets l.initial.dst l.at (take (32 * l.k) l.src))
-
-abbrev pub decreases-loop-k : goal.decreases-loop-k
-decreases-loop-k l = l.whole - l.k
+invariant-loop-k l = let done = 32 * enumerate_count l.k-iterator in
+    (chunks_exact_size (enumerate_source l.k-iterator) ≡ 32)
+    × (drop done l.src ≡ chunks_exact_rest (enumerate_source l.k-iterator))
+    × (done ≤ length l.src)
+    × (l.dst ≡ sets l.initial.dst l.at (take done l.src))

@@ -1,11 +1,16 @@
--- `ascii::reading::all_digits` meets its contract. The loop's invariant: if there was no other character and digits are left, all are digits.
+-- `ascii::reading::all_digits` meets its contract.
 -- Assumes nothing.
-use Rattle.std.proofs.Common.{arith}
+use Rattle.std.proofs.Common.{◌≡◌, ◌≤◌, length, drop_of_length-le, arith}
+use Rattle.std.proofs.lemmas.Bool.Decides.{nat_tests}
 use Rattle.ascii.proofs.PlainLaws.{other_none, others_step}
 use Rattle.ascii.proofs.reading.all_digits.Goals as goal
 
-pub loop-i-preserved : goal.loop-i-preserved
-loop-i-preserved c =
-    let a = c.args in
-    others_step a.«data».now a.end c.loop-i.i c.loop-i.others c.other-others.result _ c.loop-i.invariant (omega arith) (omega arith)
-    (other_none _ _ c.other-others.ensures)
+pub loop-c-preserved : goal.loop-c-preserved
+loop-c-preserved c =
+    others_step c.args.text.now c.loop-c.c-index c.loop-c.others c.other-others.result _ c.loop-c.invariant (omega arith) (other_none _ _ c.other-others.ensures)
+
+pub returns : goal.returns
+returns c = λ e.
+    let z : c.loop-c.others ≡ 0 = grind (arith, nat_tests) in
+    let h : length c.args.text.now ≤ c.loop-c.c-index = omega arith in
+    c.loop-c.invariant z (rw (drop_of_length-le c.args.text.now h) tt)

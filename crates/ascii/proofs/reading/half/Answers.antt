@@ -7,8 +7,5 @@ use Rattle.ascii.proofs.reading.half.Goals as goal
 pub returns-then-c-le57 : goal.returns-then-c-le57
 returns-then-c-le57 c = (sym (value_figure _ (omega arith)), omega arith)
 
-pub returns : goal.returns
-returns c = (
-  sym (value_letter _ (omega arith)),
-  ⊎_elim (λ p. omega (arith, p)) (λ p. omega (arith, p)) c.requires,
-)
+pub returns-else-c-le57 : goal.returns-else-c-le57
+returns-else-c-le57 c = ⊎_elim (λ p. absurd (omega (arith, p))) (λ p. (omega (arith, p, value_letter c.args.c (omega arith)), omega (arith, p))) c.requires

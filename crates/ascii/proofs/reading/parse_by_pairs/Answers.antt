@@ -1,6 +1,11 @@
 -- `ascii::reading::parse_by_pairs` meets its contract. The loop's invariant: what is left of the reading comes to what was left at its start.
 -- Assumes nothing.
-use Rattle.std.proofs.Common.{not, ◌≡◌, ℕ, ◌+◌, ◌-◌, ◌*◌, ◌≤◌, min, List, [], ◌∷◌, length, get_or, take, drop, sym, refl, ap, ◌∙◌, arith}
+use Rattle.std.specs.Prelude.{Result, Ok}
+use Rattle.std.proofs.lemmas.Bool.Decides.{nat_tests}
+use Rattle.modbus.specs.Paper.{paper}
+use Rattle.modbus.specs.declared.ErrorKind.{ErrorKind}
+use Rattle.modbus.proofs.PaperLaws.{handed_on}
+use Rattle.std.proofs.Common.{not, Bool, false, ◌==◌, ◌≡◌, ℕ, ◌+◌, ◌-◌, ◌*◌, ◌≤◌, min, List, [], ◌∷◌, length, get_or, take, drop, sym, refl, ap, ◌∙◌, arith}
 use lib.Seq.{set_out}
 use Rattle.modbus.specs.Step.{Step, choose, ◌≤?◌}
 use Rattle.modbus.specs.declared.ErrorKind.TheVariants.{OOB}
@@ -8,10 +13,11 @@ use Rattle.modbus.specs.Hex.{spell, spelt}
 use Rattle.modbus.proofs.StepLaws.{pick_yes, pick_no}
 use Rattle.modbus.proofs.HexLaws.{length_spelt, get_d_spelt}
 use Rattle.ascii.specs.Reading.{Ending, finished, refused, pair, parsed_into}
+use Rattle.ascii.specs.Said.{said}
 use Rattle.octets.proofs.PutLaws.{no_room, had_room}
-use Rattle.ascii.proofs.ReadingLaws.{length_kept, resumed, resumed_start, resumed_done, resumed_stop, resumed_go, parsed_none, placed_full, placed_stop, placed_outside}
-use Rattle.ascii.proofs.PlainLaws.{begin_small, quick_room, resumed_digits}
-use Rattle.ascii.proofs.SpeltLaws.{begin_spelt, digits_spelt}
+use Rattle.ascii.proofs.ReadingLaws.{pair_stop, length_kept, resumed, resumed_start, resumed_done, resumed_stop, resumed_go, parsed_none, placed_full, placed_stop, placed_outside}
+use Rattle.ascii.proofs.PlainLaws.{resumed_digits}
+use Rattle.ascii.proofs.SpeltLaws.{stop_spell, begin_spelt, digits_spelt}
 use Rattle.ascii.proofs.reading.parse_by_pairs.Goals as goal
 use Rattle.ascii.proofs.reading.parse_by_pairs.Goals.{After-least-end, At-loop-data_pos}
 
@@ -25,6 +31,10 @@ lengthy n = length_spelt n.args.hex n.args.«data».now
 within : (n : After-least-end) → n.least-end.result ≤ length (shown n)
 within n = omega (arith, lengthy n, n.least-end.ensures)
 
+-- data that is not empty has a character
+filled : {n : ℕ} {r : Bool} → n ≡ 0 → r ≡ (n == 0) → r ≡ false → ⊥
+filled z e f = grind (arith, nat_tests)
+
 -- what is left at the loop comes to what is asked
 left : (l : At-loop-data_pos)
     → let t = spelt l.args.hex l.args.«data».now in
@@ -34,16 +44,16 @@ left : (l : At-loop-data_pos)
 left l =
     let n = l in
     let a = l.args in
-    let q = l.decode_digits-done.ensures in
-    let room = quick_room _ _ _ _ _ _ l.quick_pairs-quick.ensures q.0 in
+    let q = l.decode_first-done.ensures.done in
+    let room = l.decode_first-done.ensures.few in
     let long = length_spelt a.hex a.«data».now in
-    let t = sym (digits_spelt a.hex a.«data».now l.colon-from.result (l.colon-from.result + 2 * l.decode_digits-done.result) q.1) in
+    let t = sym (digits_spelt a.hex a.«data».now l.colon-from.result (l.colon-from.result + 2 * l.decode_first-done.result) q.0) in
     l.loop-data_pos.invariant.3
-    ∙ resumed_digits (spelt a.hex a.«data».now) l.least-end.result (omega (arith, long, l.least-end.ensures)) _ _ _ _ _ _ l.decode_digits-done.result l.colon-from.result _ _ _
-    (resumed_start (spelt a.hex a.«data».now) _ _ _ _ _ (λ z. l.if-data-eq0.false (sym long ∙ z)) (l.least-end.ensures ∙ ap (min a.data_len) (sym long))
-    (l.colon-from.ensures ∙ sym (begin_spelt a.hex a.«data».now)))
+    ∙ resumed_digits (spelt a.hex a.«data».now) l.least-end.result (omega (arith, long, l.least-end.ensures)) _ _ _ _ _ _ l.decode_first-done.result l.colon-from.result _ _ _
+    (resumed_start (spelt a.hex a.«data».now) _ _ _ _ _ (λ z. filled (sym long ∙ z) l.is_empty.ensures l.if-is_empty.false) (l.least-end.ensures ∙ ap (min a.data_len) (sym long))
+    (l.colon-from.ensures.value ∙ sym (begin_spelt a.hex a.«data».now)))
     room.0 room.1 room.2 refl (omega arith) refl
-    (rw t at q.1) (rw t at q.2)
+    (rw t at q.0) (rw t at q.1)
 
 -- what stood at the place, by what code was told of it
 read : (hex : ℕ) (d : List ℕ) (end at : ℕ) {r : Step Ending ℕ}
@@ -51,15 +61,11 @@ read : (hex : ℕ) (d : List ℕ) (end at : ℕ) {r : Step Ending ℕ}
     → pair (get_or (spelt hex d) at 0) (drop (at + 1) (take end (spelt hex d))) ≡ r
 read hex d end at e = ap (λ (h : ℕ). pair h (drop (at + 1) (take end (spelt hex d)))) (get_d_spelt hex d at) ∙ sym e
 
-pub returns-then-data-eq0 : goal.returns-then-data-eq0
-returns-then-data-eq0 c =
+pub returns-then-is_empty : goal.returns-then-is_empty
+returns-then-is_empty c =
     let a = c.args in
-    parsed_none (spelt a.hex a.«data».now) _ _ _ (length_spelt a.hex a.«data».now ∙ c.if-data-eq0.true)
-
-pub decode_digits-done-requires : goal.decode_digits-done-requires
-decode_digits-done-requires c =
-    let r = quick_room _ _ _ _ _ c.quick_pairs-quick.result c.quick_pairs-quick.ensures (omega arith) in
-    (omega (arith, begin_small _ _ c.colon-from.ensures), r.2)
+    let z : length a.«data».now ≡ 0 = grind (arith, nat_tests) in
+    parsed_none (spelt a.hex a.«data».now) _ _ _ (length_spelt a.hex a.«data».now ∙ z)
 
 pub returns-then-cpos : goal.returns-then-cpos
 returns-then-cpos c =
@@ -68,19 +74,21 @@ returns-then-cpos c =
     resumed_stop (spelt a.hex a.«data».now) c.least-end.result c.loop-data_pos.data_pos _ _ _ _ _ (left (goal.at.returns-then-cpos c).At-loop-data_pos) (refused OOB)
     (omega arith) (within n) (placed_full _ _ _ _ c.if-cpos.true)
 
-pub returns-in-Refused : goal.returns-in-Refused
-returns-in-Refused c =
+pub returns-in_err-b : goal.returns-in_err-b
+returns-in_err-b c =
     let a = c.args in
-    let n = (goal.at.returns-in-Refused c).After-least-end in
-    resumed_stop (spelt a.hex a.«data».now) c.least-end.result c.loop-data_pos.data_pos _ _ _ _ _ (left (goal.at.returns-in-Refused c).At-loop-data_pos) (refused _) (omega arith) (within n)
-    (placed_stop _ _ _ _ c.if-cpos.false _ (read a.hex a.«data».now c.least-end.result c.loop-data_pos.data_pos c.in-Refused.ensures))
+    let n = (goal.at.returns-in_err-b c).After-least-end in
+    ap (λ (r : Result ℕ ErrorKind). (paper r, c.loop-data_pos.frame_buf)) (handed_on _ c.from_residual.ensures.1)
+    ∙ resumed_stop (spelt a.hex a.«data».now) c.least-end.result c.loop-data_pos.data_pos _ _ _ _ _ (left (goal.at.returns-in_err-b c).At-loop-data_pos) (refused _) (omega arith) (within n)
+    (placed_stop _ _ _ _ c.if-cpos.false _ (read a.hex a.«data».now c.least-end.result c.loop-data_pos.data_pos c.in_err-b.ensures))
 
-pub returns-in-Stop : goal.returns-in-Stop
-returns-in-Stop c =
+pub returns-then-stop_byte : goal.returns-then-stop_byte
+returns-then-stop_byte c =
     let a = c.args in
-    let n = (goal.at.returns-in-Stop c).After-least-end in
-    resumed_stop (spelt a.hex a.«data».now) c.least-end.result c.loop-data_pos.data_pos _ _ _ _ _ (left (goal.at.returns-in-Stop c).At-loop-data_pos) finished (omega arith) (within n)
-    (placed_stop _ _ _ _ c.if-cpos.false _ (read a.hex a.«data».now c.least-end.result c.loop-data_pos.data_pos c.in-Stop.ensures))
+    let n = (goal.at.returns-then-stop_byte c).After-least-end in
+    resumed_stop (spelt a.hex a.«data».now) c.least-end.result c.loop-data_pos.data_pos _ _ _ _ _ (left (goal.at.returns-then-stop_byte c).At-loop-data_pos) finished (omega arith) (within n)
+    (placed_stop _ _ _ _ c.if-cpos.false _
+    (read a.hex a.«data».now c.least-end.result c.loop-data_pos.data_pos (sym (pair_stop _ _ (stop_spell a.hex _ (c.stop_byte.ensures.0 c.if-stop_byte.true))))))
 
 pub returns-then-not-put_byte : goal.returns-then-not-put_byte
 returns-then-not-put_byte c =
@@ -90,7 +98,7 @@ returns-then-not-put_byte c =
     ap (λ (b : List ℕ). ((21, 0), b)) (f.1 ∙ set_out _ _ _ f.0)
     ∙ resumed_stop (spelt a.hex a.«data».now) c.least-end.result c.loop-data_pos.data_pos _ _ _ _ _ (left (goal.at.returns-then-not-put_byte c).At-loop-data_pos) (refused OOB)
     (omega arith) (within n)
-    (placed_outside _ _ _ _ c.if-cpos.false _ (read a.hex a.«data».now c.least-end.result c.loop-data_pos.data_pos c.in-Byte.ensures) f.0)
+    (placed_outside _ _ _ _ c.if-cpos.false _ (read a.hex a.«data».now c.least-end.result c.loop-data_pos.data_pos c.in_ok-b.ensures) f.0)
 
 pub loop-data_pos-preserved : goal.loop-data_pos-preserved
 loop-data_pos-preserved c =
@@ -99,10 +107,10 @@ loop-data_pos-preserved c =
     let h = had_room _ _ _ c.loop-data_pos.cpos (length c.loop-data_pos.frame_buf) c.put_byte.ensures (ap not c.if-not-put_byte.false) in (
       omega arith,
       omega arith,
-      length_kept c.loop-data_pos.frame_buf _ c.loop-data_pos.cpos (c.in-Byte.b ∷ []) h.1 ∙ c.loop-data_pos.invariant.2,
+      length_kept c.loop-data_pos.frame_buf _ c.loop-data_pos.cpos (c.in_ok-b.b ∷ []) h.1 ∙ c.loop-data_pos.invariant.2,
       resumed_go (spelt a.hex a.«data».now) c.least-end.result c.loop-data_pos.data_pos _ _ _ _ _ c.loop-data_pos.invariant.3 _ _ _
           (omega arith) (within n) c.if-cpos.false
-          (read a.hex a.«data».now c.least-end.result c.loop-data_pos.data_pos c.in-Byte.ensures) h.0 (omega arith) h.1,
+          (read a.hex a.«data».now c.least-end.result c.loop-data_pos.data_pos c.in_ok-b.ensures) h.0 (omega arith) h.1,
     )
 
 pub returns-then-data-data_len : goal.returns-then-data-data_len

@@ -16,39 +16,38 @@ returns-then-not-put_byte c =
 pub returns-then-not-put_two : goal.returns-then-not-put_two
 returns-then-not-put_two c =
     let a = c.args in
-    let f = no_room _ _ _ (suc c.loop-i.at) (length c.loop-i.res) c.put_two.ensures (ap not c.if-not-put_two.true) in
+    let f = no_room _ _ _ (suc c.loop-d.at) (length c.loop-d.res) c.put_two.ensures (ap not c.if-not-put_two.true) in
     let e = had_room _ _ _ 0 (length a.res.now) c.put_byte.ensures (ap not c.if-not-put_byte.false) in
     line_refused a.«data».now a.res.now _ _ e.1
-    (rest_cut a.«data».now crlf _ c.loop-i.i _ _ c.loop-i.invariant.3 _ _ _ (omega arith) c.character.ensures
-    (c.character-in-loop-i.ensures ∙ ap digit (and_mask _ 4)) f.1 f.0)
+    (rest_cut a.«data».now crlf _ c.loop-d.d-index _ _ c.loop-d.invariant.2 _ _ _ (omega arith) c.character.ensures
+    (c.character-in-loop-d.ensures ∙ ap digit (and_mask _ 4)) f.1 f.0)
     (omega (arith, length_line a.«data».now))
 
-pub loop-i-preserved : goal.loop-i-preserved
-loop-i-preserved c =
+pub loop-d-preserved : goal.loop-d-preserved
+loop-d-preserved c =
     let a = c.args in
-    let h = had_room _ _ _ (suc c.loop-i.at) (length c.loop-i.res) c.put_two.ensures (ap not c.if-not-put_two.false) in (
+    let h = had_room _ _ _ (suc c.loop-d.at) (length c.loop-d.res) c.put_two.ensures (ap not c.if-not-put_two.false) in (
       omega arith,
-      omega arith,
-      length_kept c.loop-i.res _ c.loop-i.at (c.character.result ∷ c.character-in-loop-i.result ∷ []) h.1
-          ∙ c.loop-i.invariant.2,
-      rest_step a.«data».now crlf _ c.loop-i.i _ _ c.loop-i.invariant.3 _ _ _ (omega arith) c.character.ensures
-          (c.character-in-loop-i.ensures ∙ ap digit (and_mask _ 4)) h.1,
+      length_kept c.loop-d.res _ c.loop-d.at (c.character.result ∷ c.character-in-loop-d.result ∷ []) h.1
+          ∙ c.loop-d.invariant.1,
+      rest_step a.«data».now crlf _ c.loop-d.d-index _ _ c.loop-d.invariant.2 _ _ _ (omega arith) c.character.ensures
+          (c.character-in-loop-d.ensures ∙ ap digit (and_mask _ 4)) h.1,
     )
 
 pub returns-then-not-put_two-2 : goal.returns-then-not-put_two-2
 returns-then-not-put_two-2 c =
     let a = c.args in
-    let f = no_room _ _ _ (suc c.loop-i.at) (length c.loop-i.res) c.put_two-2.ensures (ap not c.if-not-put_two-2.true) in
+    let f = no_room _ _ _ (suc c.loop-d.at) (length c.loop-d.res) c.put_two-2.ensures (ap not c.if-not-put_two-2.true) in
     let e = had_room _ _ _ 0 (length a.res.now) c.put_byte.ensures (ap not c.if-not-put_byte.false) in
     line_refused a.«data».now a.res.now _ _ e.1
-    (rest_done a.«data».now crlf _ c.loop-i.i _ _ c.loop-i.invariant.3 _ (omega arith) f.1)
+    (rest_done a.«data».now crlf _ c.loop-d.d-index _ _ c.loop-d.invariant.2 _ (omega arith) f.1)
     (omega (arith, length_line a.«data».now))
 
 pub returns : goal.returns
 returns c =
     let a = c.args in
-    let h = had_room _ _ _ (suc c.loop-i.at) (length c.loop-i.res) c.put_two-2.ensures (ap not c.if-not-put_two-2.false) in
+    let h = had_room _ _ _ (suc c.loop-d.at) (length c.loop-d.res) c.put_two-2.ensures (ap not c.if-not-put_two-2.false) in
     let e = had_room _ _ _ 0 (length a.res.now) c.put_byte.ensures (ap not c.if-not-put_byte.false) in
     line_written a.«data».now a.res.now _ _ e.1
-    (rest_done a.«data».now crlf _ c.loop-i.i _ _ c.loop-i.invariant.3 _ (omega arith) h.1) _
+    (rest_done a.«data».now crlf _ c.loop-d.d-index _ _ c.loop-d.invariant.2 _ (omega arith) h.1) _
     (omega (arith, length_line a.«data».now)) (omega arith)

@@ -9,9 +9,9 @@ use Rattle.modbus.proofs.StepLaws.{pass, fail}
 use Rattle.tables.specs.Calls.{got}
 use Rattle.tables.proofs.coils.get_coil.Goals as goal
 
-pub returns-then-n-size_of : goal.returns-then-n-size_of
+pub returns-then-n-size : goal.returns-then-n-size
 unfolding got
-returns-then-n-size_of c = sym (ap told (fail _ _ _ (λ h. omega arith)))
+returns-then-n-size c = sym (ap told (fail _ _ _ (λ h. omega arith)))
 
 pub returns : goal.returns
 unfolding got coil_at

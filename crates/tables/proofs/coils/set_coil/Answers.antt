@@ -10,9 +10,9 @@ use Rattle.modbus.proofs.StepLaws.{pass, fail}
 use Rattle.tables.specs.Calls.{changed}
 use Rattle.tables.proofs.coils.set_coil.Goals as goal
 
-pub returns-then-n-size_of : goal.returns-then-n-size_of
+pub returns-then-n-size : goal.returns-then-n-size
 unfolding changed
-returns-then-n-size_of c = sym (ap (told_with _) (fail _ _ _ (λ h. omega arith)))
+returns-then-n-size c = sym (ap (told_with _) (fail _ _ _ (λ h. omega arith)))
 
 pub returns : goal.returns
 unfolding changed put_coil

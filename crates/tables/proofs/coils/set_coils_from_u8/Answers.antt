@@ -8,12 +8,14 @@ use Rattle.modbus.specs.Paper.{told_with}
 use Rattle.modbus.specs.Storage.{packed}
 use Rattle.tables.proofs.CallsLaws.{stored_outside, stored_unmatched, stored_inside}
 use Rattle.tables.proofs.coils.set_coils_from_u8.Goals as goal
+use Rattle.tables.proofs.coils.set_coils_from_u8.Goals.{then-at-n-via-then-at-n, then-at-n-via-else-at-n+then-values-n}
 
 pub returns-then-at-n : goal.returns-then-at-n
-returns-then-at-n c = sym (ap (told_with _) (stored_outside packed _ _ _ _ _ (omega arith)))
-
-pub returns-then-values-n : goal.returns-then-values-n
-returns-then-values-n c = sym (ap (told_with _) (stored_unmatched packed _ _ _ _ _ (omega arith) c.if-values-n.true))
+returns-then-at-n c =
+    elim c.then-at-n.branch [
+      | then-at-n-via-then-at-n w ↦ sym (ap (told_with _) (stored_outside packed _ _ _ _ _ (omega arith)))
+      | then-at-n-via-else-at-n+then-values-n w ↦ sym (ap (told_with _) (stored_unmatched packed _ _ _ _ _ (omega arith) w.if-values-n.true))
+    ]
 
 pub returns : goal.returns
 returns c =

@@ -1,6 +1,7 @@
 -- `tables::registers::set_holding` meets its contract.
 -- Assumes nothing.
-use mathlib.Core.Path.{sym, ap}
+use mathlib.Core.Path.{◌≡◌, sym, ap}
+use Prim.Native.Nat.{◌/◌, ◌%◌}
 use native.Mathlib.Omega.{arith}
 use native.Mathlib.Numerals.{add-one}
 use Rattle.modbus.specs.Paper.{told_with}
@@ -13,4 +14,6 @@ returns-then-size-n c = sym (ap (told_with _) (changed_outside registers _ _ _ _
 
 pub returns : goal.returns
 unfolding put_register
-returns c = rw add-one (sym (ap (told_with _) (changed_inside registers _ _ _ _ (omega arith))))
+returns c =
+    let h : c.args.value / 256 % 256 ≡ c.args.value / 256 = omega arith in
+    rw (c.to_be_bytes.ensures, h, add-one) (sym (ap (told_with _) (changed_inside registers _ _ _ _ (omega arith))))

@@ -15,6 +15,7 @@ use Rattle.response.proofs.BoundedLaws.{extended_put}
 use Rattle.tables.specs.Calls.{stored_whole}
 use Rattle.tables.proofs.CallsLaws.{stored_outside, stored_unmatched, stored_inside}
 use Rattle.tables.proofs.registers.set_holdings_from_u8.Goals as goal
+use Rattle.tables.proofs.registers.set_holdings_from_u8.Goals.{then-size-first-via-then-size-first, then-size-first-via-else-size-first+then-values-ne0}
 
 -- the part from a on has come back with the data at its front
 filled : (xs vs ys : List ℕ) (a : ℕ) → ys ≡ sets (take (length xs - a) (drop a xs)) 0 vs → a + length vs ≤ length xs
@@ -28,11 +29,11 @@ filled xs vs ys a e h =
 
 pub returns-then-size-first : goal.returns-then-size-first
 unfolding stored_whole
-returns-then-size-first c = sym (ap (told_with _) (stored_outside registers _ _ _ _ _ (omega arith)))
-
-pub returns-then-values-ne0 : goal.returns-then-values-ne0
-unfolding stored_whole
-returns-then-values-ne0 c = sym (ap (told_with _) (stored_unmatched registers _ _ _ _ _ (omega arith) (λ h. omega arith)))
+returns-then-size-first c =
+    elim c.then-size-first.branch [
+      | then-size-first-via-then-size-first w ↦ sym (ap (told_with _) (stored_outside registers _ _ _ _ _ (omega arith)))
+      | then-size-first-via-else-size-first+then-values-ne0 w ↦ sym (ap (told_with _) (stored_unmatched registers _ _ _ _ _ (omega arith) (λ h. omega arith)))
+    ]
 
 pub returns : goal.returns
 unfolding stored_whole
