@@ -38,7 +38,7 @@ fn close(
     if request.len() < len {
         return Err(Refusal::NoRoom);
     }
-    extend(request, 0, &frame[..len]);
+    let _ = extend(request, 0, &frame[..len]);
     Ok(len)
 }
 
@@ -48,8 +48,8 @@ fn lay_parts(head: &[u8], data: &[u8], start: usize, frame: &mut [u8]) -> usize
     ensures { (result ≡ length (head.now ++ «data».now)) × (length frame.new ≡ length frame.old) × (take result (drop start frame.new) ≡ head.now ++ «data».now) }
 {
     let behind = start + head.len();
-    extend(frame, start, head);
-    extend(frame, behind, data);
+    let _ = extend(frame, start, head);
+    let _ = extend(frame, behind, data);
     head.len() + data.len()
 }
 
