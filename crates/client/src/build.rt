@@ -29,8 +29,8 @@ fn lay_parts(head: &[u8], data: &[u8], start: usize, frame: &mut [u8]) -> usize
     ensures { (result ≡ length (head.now ++ «data».now)) × (length frame.new ≡ length frame.old) × (take result (drop start frame.new) ≡ head.now ++ «data».now) }
 {
     let behind = start + head.len();
-    let _ = extend(frame, start, head);
-    let _ = extend(frame, behind, data);
+    extend(frame, start, head).unwrap();
+    extend(frame, behind, data).unwrap();
     head.len() + data.len()
 }
 
@@ -65,7 +65,7 @@ impl ModbusRequest {
         if request.len() < len {
             return Err(Refusal::NoRoom);
         }
-        let _ = extend(request, 0, &frame[..len]);
+        extend(request, 0, &frame[..len]).unwrap();
         Ok(len)
     }
 

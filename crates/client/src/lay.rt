@@ -39,10 +39,10 @@ fn put(kind: CellKind, value: u16, bytes: &mut [u8], n: usize, i: usize)
 {
     match kind {
         CellKind::Bits => {
-            let _ = set_coil(bytes, n, i as u16, value == 1);
+            set_coil(bytes, n, i as u16, value == 1).unwrap();
         }
         CellKind::Words => {
-            let _ = set_holding(bytes, n, i as u16, value);
+            set_holding(bytes, n, i as u16, value).unwrap();
         }
     }
 }

@@ -9,7 +9,7 @@ use Rattle.std.specs.Prelude.{Option, Some}
 use Rattle.modbus.specs.Paper.{proto_of}
 use Rattle.transports.specs.Sealed.{sealed}
 use Rattle.client.specs.Asking.{tag_to, laid_into}
-use Rattle.client.proofs.CloseLaws.{sealed_tagged, sealed_some, sealed_fits, no_room, laid}
+use Rattle.client.proofs.CloseLaws.{sealed_tagged, sealed_some, sealed_fits, no_room, laid, laid_done}
 use Rattle.client.proofs.ModbusRequest.close.Goals as goal
 use Rattle.client.proofs.ModbusRequest.close.Goals.{After-unwrap-len}
 
@@ -41,6 +41,12 @@ pub slice_bounds-extend-end-2 : goal.slice_bounds-extend-end-2
 slice_bounds-extend-end-2 c =
     let a = c.args in
     sym (length-take-le _ _ (sealed_fits a.self a.n a.frame.now c.requires.0 c.requires.1 _ _ (whole (goal.at.slice_bounds-extend-end-2 c).After-unwrap-len)))
+
+pub unwrap-requires : goal.unwrap-requires
+unwrap-requires c =
+    let a = c.args in
+    laid_done a.self a.n a.frame.now c.requires.0 c.requires.1 _ _ (whole (goal.at.unwrap-requires c).After-unwrap-len) a.request.now
+    (λ h. omega (arith, c.if-request-len.false)) c.extend.result _ c.extend.ensures
 
 pub returns : goal.returns
 returns c =
