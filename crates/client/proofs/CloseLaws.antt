@@ -6,8 +6,7 @@ use mathlib.Core.List.{List, ◌++◌, append_assoc}
 use Prim.Native.Nat.{ℕ, ◌+◌, ◌≤◌, ◌<◌}
 use native.Mathlib.Omega.{arith}
 use lib.ListN.{length, get_or, take, drop, length-drop, length-append}
-use Rattle.modbus.specs.declared.ErrorKind.{ErrorKind}
-use Rattle.std.specs.Prelude.{Option, Some, Result}
+use Rattle.std.specs.Prelude.{Option, Some, Result, IsOk}
 use Rattle.std.specs.Int.{w16, to_be_bytes}
 use lib.Seq.{sets, sets-eq, length-sets, length-take-le, take_at, drop_at}
 use Rattle.modbus.specs.Step.{stop}
@@ -16,13 +15,14 @@ use Rattle.modbus.specs.Setup.{room_for}
 use Rattle.modbus.specs.Frame.{tag_of, tag_length, start_of, around}
 use Rattle.modbus.specs.Decode.{no_room_quiet}
 use Rattle.modbus.specs.declared.Answer.{Answer}
+use Rattle.modbus.specs.declared.ErrorKind.{ErrorKind}
 use Rattle.modbus.specs.declared.ModbusProto.{ModbusProto}
 use Rattle.modbus.specs.declared.ModbusProto.TheVariants.{Rtu, Ascii, TcpUdp}
 use Rattle.modbus.proofs.StepLaws.{pass, fail, follow, halt}
 use Rattle.modbus.proofs.BytesLaws.{sets_append}
 use Rattle.modbus.proofs.FrameLaws.{length_wrap}
 use Rattle.response.specs.Bounded.{extended}
-use Rattle.response.proofs.BoundedLaws.{extended_put}
+use Rattle.response.proofs.BoundedLaws.{extended_put, extended_fits}
 use Rattle.transports.specs.Sealed.{sealed}
 use Rattle.transports.proofs.SealedLaws.{sealed_room}
 use Rattle.transports.proofs.ProtoLaws.{start_six}
@@ -30,6 +30,7 @@ use Rattle.requests.specs.Judged.{weighed}
 use Rattle.client.specs.declared.ModbusRequest.{ModbusRequest}
 use Rattle.client.specs.Asking.{bad_request, silent, tag_to, every_cell, laid_into}
 use Rattle.client.specs.Hearing.{failed, roomed, framed, body_sent}
+use Rattle.client.proofs.LayLaws.{done_by}
 use Rattle.client.proofs.FunctionLaws.{by_step}
 use Rattle.client.proofs.BuildLaws.{or_go, or_stop, two_bytes}
 
@@ -49,6 +50,12 @@ around_511 : (p : ModbusProto) (n : ℕ) → n ≤ 253 → around p n ≤ 511
 around_511 Rtu n h = omega arith
 around_511 Ascii n h = omega arith
 around_511 TcpUdp n h = omega arith
+
+-- bytes that fit are put
+pub extended_done : (buf l after : List ℕ) (len : ℕ) (r : Result ℕ ErrorKind)
+    → ◌≡◌ {A = (ℕ × ℕ) × List ℕ} (paper r, after) (told_with buf (extended buf len l)) → len + length l ≤ length buf → IsOk r
+extended_done buf l after len r e h =
+    done_by (λ n. n) r (ap (λ (p : (ℕ × ℕ) × List ℕ). p.0.0) (e ∙ ap (told_with buf) (extended_fits buf len l h)))
 
 -- ---- closing
 
@@ -99,6 +106,12 @@ module _ (to : ModbusRequest) (n : ℕ) (frame : List ℕ) (small : n ≤ 253) (
       pub no_room : length out < len → roomed whole (length out) ≡ stop (silent no_room_quiet)
       no_room h = let k = sealed_length in fail _ _ _ (λ i. omega arith)
 
+      pub laid_done : ¬ (length out < len) → (r : Result ℕ ErrorKind) (over : List ℕ)
+          → ◌≡◌ {A = (ℕ × ℕ) × List ℕ} (paper r, over) (told_with out (extended out 0 (take len after))) → IsOk r
+      laid_done h r over q =
+          let t = length-take-le len after sealed_fits in
+          extended_done out (take len after) over 0 r q (omega (arith, h))
+
       pub laid : ¬ (length out < len) → (r : Result ℕ ErrorKind) (over : List ℕ)
           → ◌≡◌ {A = (ℕ × ℕ) × List ℕ} (paper r, over) (told_with out (extended out 0 (take len after)))
           → ◌≡◌ {A = Answer × List ℕ} (record { value = len; kind = 0 }, over) (laid_into out (roomed whole (length out)))
@@ -123,6 +136,12 @@ module _ (buffer head tail : List ℕ) (start : ℕ) (fits : start + length head
   module _ (r s : Result ℕ ErrorKind) (one two : List ℕ)
       (e : ◌≡◌ {A = (ℕ × ℕ) × List ℕ} (paper r, one) (told_with buffer (extended buffer start head)))
       (f : ◌≡◌ {A = (ℕ × ℕ) × List ℕ} (paper s, two) (told_with one (extended one (start + length head) tail))) where
+    pub second_done : IsOk s
+    second_done =
+        let p = extended_put buffer head one start r e (omega arith) in
+        let n : length one ≡ length buffer = ap length p ∙ length-sets buffer start head in
+        extended_done one tail two (start + length head) s f (omega arith)
+
     two_parts : two ≡ sets buffer start (head ++ tail)
     two_parts =
         let p = extended_put buffer head one start r e (omega arith) in

@@ -11,9 +11,9 @@ use native.Mathlib.Nat.{zero-add, zero-div}
 use native.Mathlib.Decide.{dec_lt}
 use lib.ListN.{length, get_or, set, take, drop, replicate, length-append, length-replicate, get_or-append, drop_of_length-le}
 use lib.Seq.{sets, sets-eq, drop-cons, get_or-take, take_at, length-take-le}
+use Rattle.std.specs.Prelude.{⊤, Result, Ok, Err, IsOk}
 use lib.Dec.{eqb, ltb}
 use mir.Val.{bool_byte}
-use Rattle.std.specs.Prelude.{Result, Ok, Err, ⊤}
 use Rattle.std.specs.Bool.{MatchBool}
 use Rattle.std.specs.List.{HoldsAt, AllWithin}
 use Rattle.std.proofs.lemmas.Bool.{false≢true, lt-ltb, le-ltb}
@@ -21,7 +21,7 @@ use Rattle.modbus.specs.Step.{choose, ◌≤?◌, ◌and?◌}
 use Rattle.modbus.specs.Bytes.{All, Bytes, word_at, twos, pack}
 use Rattle.modbus.specs.Table.{Kind, bit, word, target, Fits, part}
 use Rattle.modbus.specs.Request.{most_written, octets, shown}
-use Rattle.modbus.specs.Paper.{told, told_with, bit_paper, done_paper, digit_of, kind_in}
+use Rattle.modbus.specs.Paper.{told, told_with, bit_paper, done_paper, paper_by, digit_of, kind_in}
 use Rattle.modbus.specs.Storage.{coil_at, put_coil, register_at, put_register, Storage, packed, registers, storage, store, Sound, datum, values}
 use Rattle.modbus.specs.declared.ErrorKind.{ErrorKind}
 use Rattle.modbus.specs.declared.CellKind.{CellKind}
@@ -62,7 +62,18 @@ above_is false vs h = sym (pick_yes (all_fit? bit vs) _ _ (all_by (Fits bit) vs 
 
 -- ---- values stored one by one
 
+-- an answer in numbers that is none of a refusal
+pub done_by : {A : Type 0} (f : A → ℕ) (r : Result A ErrorKind) → (paper_by f r).0 ≡ 0 → IsOk r
+done_by f (Ok v) e = refl
+done_by f (Err k) e = absurd (number_some k e)
+
 -- a cell that lies inside is put
+pub cell_done : (S : Storage) (l after : List ℕ) (cells n v : ℕ) (r : Result ⊤ ErrorKind) → Sound S l cells → n < cells
+    → ◌≡◌ {A = (ℕ × ℕ) × List ℕ} (done_paper r, after) (told_with l (changed S l cells n v)) → IsOk r
+cell_done S l after cells n v r h k e =
+    let z = changed_inside S l cells n v (rw (size_sound S l cells h) k) in
+    done_by (λ d. 0) r (ap (λ (p : (ℕ × ℕ) × List ℕ). p.0.0) (e ∙ ap (told_with l) z))
+
 pub cell_put : (S : Storage) (l after : List ℕ) (cells n v : ℕ) (r : Result ⊤ ErrorKind) → Sound S l cells → n < cells
     → ◌≡◌ {A = (ℕ × ℕ) × List ℕ} (done_paper r, after) (told_with l (changed S l cells n v)) → after ≡ S.put l n v
 cell_put S l after cells n v r h k e =
@@ -216,8 +227,8 @@ module _ (d : List ℕ) (n i : ℕ) (sound : Sound packed d n) (inside : i < n) 
   pub bit_got : (b : Bool) → r ≡ Ok b → (v : ℕ) → digit_of b ≡ v → v ≡ coil_at d i
   bit_got b q v w = sym w ∙ ap (λ (p : ℕ × ℕ). p.1) (sym (ap bit_paper q) ∙ got_coil)
 
-  pub bit_never : (k : ErrorKind) → r ≡ Err k → ⊥
-  bit_never k q = number_some k (ap (λ (p : ℕ × ℕ). p.0) (sym (ap bit_paper q) ∙ got_coil))
+pub bit_answered : (r : Result Bool ErrorKind) (d : List ℕ) (n i : ℕ) → Sound packed d n → i < n → bit_paper r ≡ told (got packed d n i) → IsOk r
+bit_answered r d n i sound inside e = done_by digit_of r (ap (λ (p : ℕ × ℕ). p.0) (got_coil d n i sound inside r e))
 
 -- ---- by the kind
 
@@ -232,6 +243,16 @@ module _ (l after : List ℕ) (n i v : ℕ) (r : Result ⊤ ErrorKind) (few : n 
       → ◌≡◌ {A = (ℕ × ℕ) × List ℕ} (done_paper r, after) (told_with l (changed registers l n i v)) → after ≡ (storage (target (kind_in b))).put l i v
   put_word Bits q long e = let z : ◌≡◌ {A = ℕ} 0 1 = cc in absurd (omega arith)
   put_word Words q long e = cell_put registers l after n i v r (omega arith, long) inside e
+
+  pub put_done : (b : CellKind) → b ≡ Bits → octets (kind_in b) n ≤ length l → (x : ℕ)
+      → ◌≡◌ {A = (ℕ × ℕ) × List ℕ} (done_paper r, after) (told_with l (changed packed l n i x)) → IsOk r
+  put_done Bits q long x e = cell_done packed l after n i x r (omega arith, long) inside e
+  put_done Words q long x e = let z : ◌≡◌ {A = ℕ} 0 1 = cc in absurd (omega arith)
+
+  pub word_done : (b : CellKind) → b ≡ Words → octets (kind_in b) n ≤ length l
+      → ◌≡◌ {A = (ℕ × ℕ) × List ℕ} (done_paper r, after) (told_with l (changed registers l n i v)) → IsOk r
+  word_done Bits q long e = let z : ◌≡◌ {A = ℕ} 0 1 = cc in absurd (omega arith)
+  word_done Words q long e = cell_done registers l after n i v r (omega arith, long) inside e
 
 pub cell_word : (b : CellKind) (d : List ℕ) (i : ℕ) → b ≡ Words → word_at d (2 * i) ≡ datum (kind_in b) d i
 unfolding register_at

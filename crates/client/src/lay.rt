@@ -39,10 +39,10 @@ fn put(kind: CellKind, value: u16, bytes: &mut [u8], n: usize, i: usize)
 {
     match kind {
         CellKind::Bits => {
-            let _ = set_coil(bytes, n, i as u16, value == 1);
+            set_coil(bytes, n, i as u16, value == 1).unwrap();
         }
         CellKind::Words => {
-            let _ = set_holding(bytes, n, i as u16, value);
+            set_holding(bytes, n, i as u16, value).unwrap();
         }
     }
 }
@@ -62,10 +62,7 @@ fn bit_of(bytes: &[u8], n: usize, i: usize) -> u16
     requires { (i < n) × (n ≤ 8 * length bytes.now) × (n ≤ 2000) }
     ensures { result ≡ coil_at bytes.now i }
 {
-    match get_coil(bytes, n, i as u16) {
-        Err(_) => 0,
-        Ok(on) => on as u16,
-    }
+    get_coil(bytes, n, i as u16).unwrap() as u16
 }
 
 // Cell i of n.

@@ -13,7 +13,6 @@ ghost use Rattle.client.specs.Asking.{declined_by, asker, getting, setting, gene
 ghost use Rattle.client.specs.Hearing.{refusal_of, answer_of, reading_of, values_of, Said, Unsaid};
 ghost use Rattle.client.specs.declared.Refusal.TheVariants.{BadRequest, Unopened};
 
-use build::{pair, send, send_both, set};
 use hear::hear;
 use lay::lay;
 use modbus::{Answer, CellKind};
@@ -138,15 +137,15 @@ impl ModbusRequest {
         if 4 < func {
             return answer(Err(Refusal::BadRequest));
         }
-        let head = pair(self.unit_id, func, reg, count);
-        answer(send(self, &head, &[], request))
+        let head = self.pair(func, reg, count);
+        answer(self.send(&head, &[], request))
     }
 
     // A request that writes the values from `reg` on: functions 5 and 6 one, 15 and 16 as many as there are.
     pub fn generate_set(self, func: u8, reg: u16, values: &[u16], request: &mut [u8]) -> Answer
         ensures { (result, request.new) ≡ laid_into request.old (generated self (setting self.proto func reg values.now) (length request.old)) }
     {
-        answer(set(self, func, reg, values, request))
+        answer(self.set(func, reg, values, request))
     }
 
     // A request that keeps the bits of a holding where the first mask has ones and makes the others the second's: function 22.
@@ -157,7 +156,7 @@ impl ModbusRequest {
         let [c, d] = and_mask.to_be_bytes();
         let [e, f] = or_mask.to_be_bytes();
         let head = [self.unit_id, 22, a, b, c, d, e, f];
-        answer(send(self, &head, &[], request))
+        answer(self.send(&head, &[], request))
     }
 
     // A request that writes the values from `write_reg` on, and then reads `count` holdings from `reg` on: function 23.
@@ -177,15 +176,7 @@ impl ModbusRequest {
         let mut data = [0u8; 242];
         lay(CellKind::Words, values, &mut data);
         let n = values.len();
-        answer(send_both(
-            self,
-            reg,
-            count,
-            write_reg,
-            n as u16,
-            &data[..2 * n],
-            request,
-        ))
+        answer(self.send_both(reg, count, write_reg, n as u16, &data[..2 * n], request))
     }
 }
 

@@ -2,7 +2,8 @@
 -- Assumes nothing.
 use mathlib.Core.Logic.{by_cases}
 use Rattle.std.proofs.Common.{◌≡◌, ℕ, ◌+◌, ◌-◌, ◌≤◌, List, [], ◌∷◌, length, get_or, take, drop, sym, refl, ap, ◌∙◌, subst, ap₂, arith, length-drop, length-take-le}
-use Rattle.std.specs.Prelude.{Result, Ok, Err}
+use denote.Ref.{Bor}
+use Rattle.std.specs.Prelude.{IfOk, IfErr, Result, Ok, Err}
 use Rattle.modbus.specs.Step.{Step, stop, go, ◌≤?◌, ◌and?◌}
 use Rattle.modbus.specs.Hex.{spelt, untext}
 use Rattle.modbus.specs.Frame.{tag_of, start_of}
@@ -154,3 +155,31 @@ opens_holds p g f n start raw s h e k =
     let z = part_same start n (start_of p) s (source p f raw) e k in
     let l : length (take n (drop (start_of p) (source p f raw))) ≡ n = length-take-le n _ (simp length-drop (omega (arith, h.2))) in
     (h.0 ∙ ap (λ (b : List ℕ). go (record { tag = tag_of p (get_or f 0 0) (get_or f 1 0); body = b })) (sym z), rw z (omega (arith, h.1, l)), h.3)
+
+-- a body or a fault, of a reference what it holds
+abbrev pub found : Result (Bor (List ℕ)) Fault → Result (List ℕ) Fault
+found (Ok b) = Ok b.now
+found (Err x) = Err x
+
+same_fault : (x y : Fault) → fault_of x ≡ fault_of y → x ≡ y
+same_fault Broken Broken e = refl
+same_fault Broken WrongCheck e = let z : ◌≡◌ {A = ℕ} 0 1 = cc in absurd (omega arith)
+same_fault WrongCheck Broken e = let z : ◌≡◌ {A = ℕ} 0 1 = cc in absurd (omega arith)
+same_fault WrongCheck WrongCheck e = refl
+
+abbrev held_body : Step Silent Message → List ℕ
+held_body (go m) = m.body
+held_body (stop o) = []
+
+-- two such answers are one
+pub same_found : (p : ModbusProto) (f : List ℕ) (s : Step Silent Message) (x y : Result (Bor (List ℕ)) Fault)
+    → IfOk x (λ b. Holds p f b.now s) → IfErr x (λ k. s ≡ stop (fault_of k)) → IfOk y (λ b. Holds p f b.now s) → IfErr y (λ k. s ≡ stop (fault_of k))
+    → found x ≡ found y
+same_found p f s (Ok b) (Ok c) h i j k =
+    ap (λ (t : Step Silent Message). Ok (held_body t)) (sym h.0 ∙ j.0)
+same_found p f s (Ok b) (Err y) h i j k = let z : ◌≡◌ {A = ℕ} 0 1 = let e = sym h.0 ∙ k in cc in absurd (omega arith)
+same_found p f s (Err x) (Ok c) h i j k = let z : ◌≡◌ {A = ℕ} 0 1 = let e = sym i ∙ j.0 in cc in absurd (omega arith)
+same_found p f s (Err x) (Err y) h i j k =
+    let z : stop (fault_of x) ≡ stop (fault_of y) = sym i ∙ k in
+    let e : fault_of x ≡ fault_of y = cc in
+    ap Err (same_fault x y e)

@@ -1,7 +1,7 @@
 -- What an ASCII frame holds: whether it is a line, how its text is read, and what the check says of its bytes.
 -- Assumes nothing.
 use Rattle.std.proofs.Common.{◌≡◌, ℕ, ◌+◌, ◌-◌, ◌*◌, ◌≤◌, Bool, true, false, List, [], ◌∷◌, length, get_or, take, drop, sym, refl, ap, ◌∙◌, arith, length-drop, length-take, take_at}
-use Rattle.std.specs.Prelude.{Result, Err, Ok}
+use Rattle.std.specs.Prelude.{Result, Ok, Err}
 use lib.Seq.{sets, sets-eq, length-sets}
 use Rattle.std.proofs.Common.{⊎_elim, eqb}
 use Rattle.std.proofs.lemmas.Bool.Decides.{eqb_tells}
@@ -167,8 +167,8 @@ front l buf n e h = rw (sets-eq l buf 0 (omega arith)) (take_at l (drop (0 + len
 -- r was answered for the text of a line, which left `after`
 module _ (f raw after : List ℕ) (r : Result ℕ ErrorKind) (h : Lined f) (fits : 254 ≤ length raw)
     (e : ◌≡◌ {A = (ℕ × ℕ) × List ℕ} (paper r, after) (parsed_into f (length f - 2) raw 0)) where
-  told_by : paper r ≡ told (counted (reading f (length raw)) (reading f (length raw)).ending)
-  told_by = ap (λ (p : (ℕ × ℕ) × List ℕ). p.0) e
+  answered : paper r ≡ told (counted (reading f (length raw)) (reading f (length raw)).ending)
+  answered = ap (λ (p : (ℕ × ℕ) × List ℕ). p.0) e
 
   left : after ≡ sets raw 0 (reading f (length raw)).bytes
   left = ap (λ (p : (ℕ × ℕ) × List ℕ). p.1) e
@@ -177,18 +177,18 @@ module _ (f raw after : List ℕ) (r : Result ℕ ErrorKind) (h : Lined f) (fits
   decoded_kept = ap length left ∙ length-sets raw 0 (reading f (length raw)).bytes
 
   pub text_refused : (k : ErrorKind) → r ≡ Err k → Told f (Err Broken) after
-  text_refused k q = told_stop f after (ascii_refused f (length raw) h fits k (byte_refusal r _ k told_by q))
+  text_refused k q = told_stop f after (ascii_refused f (length raw) h fits k (byte_refusal r _ k answered q))
 
   module _ (n : ℕ) (q : r ≡ Ok n) where
     pub text_cut : ¬ (2 * n + 3 ≡ length f) → Told f (Err Broken) after
-    text_cut j = told_stop f after (ascii_cut f (length raw) h fits n (byte_value r _ n told_by q) j)
+    text_cut j = told_stop f after (ascii_cut f (length raw) h fits n (byte_value r _ n answered q) j)
 
     pub text_within : 2 * n + 3 ≡ length f → (1 ≤ n) × (n ≤ length after)
     text_within j = (omega arith, omega (arith, decoded_kept))
 
     pub text_read : 2 * n + 3 ≡ length f → (o : Result ℕ Fault) → o ≡ opened (checked lrc_byte 1 (take n after)) → Told f o after
     text_read j o p =
-        let (m, u) = ascii_read f (length raw) h fits n (byte_value r _ n told_by q) j in
+        let (m, u) = ascii_read f (length raw) h fits n (byte_value r _ n answered q) j in
         let t = ap (take n) left ∙ front (reading f (length raw)).bytes raw n m (omega arith) in
         let w = text_within j in
         told_checked f after n o w.0 w.1 (u ∙ ap (checked lrc_byte 1) (sym t)) p

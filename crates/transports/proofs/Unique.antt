@@ -13,7 +13,7 @@ use Rattle.modbus.specs.declared.ModbusProto.TheVariants.{Ascii}
 use Rattle.modbus.proofs.Unique.{Unique}
 use Rattle.transports.specs.declared.Fault.{Fault}
 use Rattle.transports.specs.Opened.{source}
-use Rattle.transports.proofs.AnswerLaws.{same_body}
+use Rattle.transports.proofs.AnswerLaws.{same_body, found, same_found}
 use Rattle.transports.proofs.open.Kinds as open-kinds
 use Rattle.transports.proofs.open.Reads as open-reads
 use Rattle.transports.proofs.rtu.open_rtu.Kinds as open-rtu-kinds
@@ -22,6 +22,8 @@ use Rattle.transports.proofs.lines.open_ascii.Kinds as open-ascii-kinds
 use Rattle.transports.proofs.lines.open_ascii.Reads as open-ascii-reads
 use Rattle.transports.proofs.tcp.open_tcp.Kinds as open-tcp-kinds
 use Rattle.transports.proofs.tcp.open_tcp.Reads as open-tcp-reads
+use Rattle.transports.proofs.body_of.Kinds as body-of-kinds
+use Rattle.transports.proofs.body_of.Reads as body-of-reads
 use Rattle.transports.proofs.start_of.Kinds as start-of-kinds
 use Rattle.transports.proofs.start_of.Reads as start-of-reads
 use Rattle.transports.proofs.body_source.Kinds as body-source-kinds
@@ -54,6 +56,14 @@ pub «open» : (κs : Lfts 2) (a : Dens κs open-kinds.ps) (x y : Result ℕ Fau
     ≡ take n (drop (start_of (proto_of a.0)) (source (proto_of a.0) a.1.1.0.now v.1.1.1.0)))
 «open» κs a x y u v p q =
     (p.0 ∙ sym q.0, λ n e. same_body (proto_of a.0) (spelled_in (proto_of a.0) a.1.0 a.1.1.0.now) n (sym e ∙ p.0) _ _ p.1.0 q.1.0)
+
+-- of the body, what it holds
+pub body_of : (κs : Lfts 1) (a : Dens κs body-of-kinds.ps) (x y : (res_t body-of-kinds.r κs).Denot)
+    (u v : Lasts (ended_of 1 body-of-kinds.ps body-of-kinds.r) κs a)
+    → body-of-reads.Post κs a x (at_exit (ended_of 1 body-of-kinds.ps body-of-kinds.r) κs a u)
+    → body-of-reads.Post κs a y (at_exit (ended_of 1 body-of-kinds.ps body-of-kinds.r) κs a v)
+    → found x ≡ found y
+body_of κs a x y u v p q = same_found (proto_of a.0) a.1.1.0.now _ x y p.0 p.1 q.0 q.1
 
 pub start_of_law : Unique 0 start-of-kinds.ps start-of-kinds.r start-of-reads.Post
 start_of_law κs a x y u v p q = (p ∙ sym q, refl)

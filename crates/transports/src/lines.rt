@@ -15,7 +15,6 @@ ghost use Rattle.transports.specs.Sealed.{sealed};
 use crate::Fault;
 use ascii::{low_digit, other, parse_text, put_text};
 use checks::calc_lrc;
-use response::extend;
 
 // Whether a frame is a line of text within the bounds.
 fn is_line(frame: &[u8]) -> bool
@@ -34,15 +33,11 @@ fn check_lrc(bytes: &[u8]) -> Result<usize, Fault>
     ensures { result ≡ opened (checked lrc_byte 1 bytes.now) }
 {
     let k = bytes.len() - 1;
-    match calc_lrc(bytes, k as u8) {
-        Err(_) => Err(Fault::Broken),
-        Ok(lrc) => {
-            if bytes[k] != lrc {
-                return Err(Fault::WrongCheck);
-            }
-            Ok(k)
-        }
+    let lrc = calc_lrc(bytes, k as u8).unwrap();
+    if bytes[k] != lrc {
+        return Err(Fault::WrongCheck);
     }
+    Ok(k)
 }
 
 // 0 if the eight characters from `at` on are digits.
@@ -105,15 +100,13 @@ pub fn open_ascii(hex: u8, frame: &[u8], raw: &mut [u8; 256]) -> Result<usize, F
         decode_eight(frame, raw);
         return check_lrc(&raw[..7]);
     }
-    match parse_text(frame, frame.len() - 2, raw, 0, hex) {
-        Err(_) => Err(Fault::Broken),
-        Ok(n) => {
-            if 2 * (n as usize) + 3 != frame.len() {
-                return Err(Fault::Broken);
-            }
-            check_lrc(&raw[..n as usize])
-        }
+    let Ok(n) = parse_text(frame, frame.len() - 2, raw, 0, hex) else {
+        return Err(Fault::Broken);
+    };
+    if 2 * (n as usize) + 3 != frame.len() {
+        return Err(Fault::Broken);
     }
+    check_lrc(&raw[..n as usize])
 }
 
 // Lays the text of the bytes behind the first place, and answers their LRC. One loop for both: without it a short frame costs 100
@@ -137,10 +130,7 @@ fn lay_many(dst: &mut [u8], bytes: &[u8]) -> u8
     ensures { (result ≡ lrc bytes.now) × (dst.new ≡ sets dst.old 1 (text bytes.now)) }
 {
     put_text(dst, 1, bytes);
-    match calc_lrc(bytes, bytes.len() as u8) {
-        Err(_) => 0,
-        Ok(check) => check,
-    }
+    calc_lrc(bytes, bytes.len() as u8).unwrap()
 }
 
 // The same for the first n bytes of the reply itself, which are copied before their text is laid over them.

@@ -56,28 +56,28 @@ returns-then-n-frame c =
     let t = text_cut line a.raw.now _ _ h fits e _ c.in-Ok.is (λ z. c.if-n-frame.true (z ∙ length_spelt _ a.frame.now)) in
     record { value = t.0; fronted = t.1; raw_len_unchanged = decoded_kept line a.raw.now _ c.parse_text.result h fits e }
 
-pub check_lrc-requires-in-Ok : goal.check_lrc-requires-in-Ok
-check_lrc-requires-in-Ok c =
-    let (h, fits, e) = read (goal.at.check_lrc-requires-in-Ok c).After-parse_text in
+pub check_lrc-requires-2 : goal.check_lrc-requires-2
+check_lrc-requires-2 c =
+    let (h, fits, e) = read (goal.at.check_lrc-requires-2 c).After-parse_text in
     let a = c.args in
     let line = spelt a.hex a.frame.now in
     let w = text_within line a.raw.now _ _ h fits e _ c.in-Ok.is (c.if-n-frame.false ∙ sym (length_spelt _ a.frame.now)) in
     let k = length-take-le _ _ w.1 in
     (omega (arith, w.0, k), omega (arith, k))
 
-pub returns-in-Err : goal.returns-in-Err
-returns-in-Err c =
-    let (h, fits, e) = read (goal.at.returns-in-Err c).After-parse_text in
+pub returns-in_default : goal.returns-in_default
+returns-in_default c =
+    let (h, fits, e) = read (goal.at.returns-in_default c).After-parse_text in
     let a = c.args in
     let line = spelt a.hex a.frame.now in
-    let t = text_refused line a.raw.now _ _ h fits e _ c.in-Err.is in
+    let t = text_refused line a.raw.now _ _ h fits e _ c.in_default.is in
     record { value = t.0; fronted = t.1; raw_len_unchanged = decoded_kept line a.raw.now _ c.parse_text.result h fits e }
 
-pub returns-else-n-frame : goal.returns-else-n-frame
-returns-else-n-frame c =
-    let (h, fits, e) = read (goal.at.returns-else-n-frame c).After-parse_text in
+pub returns : goal.returns
+returns c =
+    let (h, fits, e) = read (goal.at.returns c).After-parse_text in
     let a = c.args in
     let line = spelt a.hex a.frame.now in
     let t = text_read line a.raw.now _ _ h fits e _ c.in-Ok.is
-    (c.if-n-frame.false ∙ sym (length_spelt _ a.frame.now)) _ c.check_lrc-in-Ok.ensures in
+    (c.if-n-frame.false ∙ sym (length_spelt _ a.frame.now)) _ c.check_lrc-2.ensures in
     record { value = t.0; fronted = t.1; raw_len_unchanged = decoded_kept line a.raw.now _ c.parse_text.result h fits e }

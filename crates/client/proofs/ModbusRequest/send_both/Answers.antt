@@ -1,8 +1,8 @@
--- `client::build::send_both` meets its contract.
+-- `client::ModbusRequest::send_both` meets its contract.
 -- Assumes nothing.
 use native.Mathlib.Omega.{arith}
 use Rattle.client.proofs.BuildLaws.{two_bytes}
-use Rattle.client.proofs.build.send_both.Goals as goal
+use Rattle.client.proofs.ModbusRequest.send_both.Goals as goal
 
 pub returns : goal.returns
 returns c =

@@ -1,8 +1,8 @@
--- `client::build::send_many` meets its contract.
+-- `client::ModbusRequest::send_many` meets its contract.
 -- Assumes nothing.
 use native.Mathlib.Omega.{arith}
 use Rattle.client.proofs.BuildLaws.{two_bytes}
-use Rattle.client.proofs.build.send_many.Goals as goal
+use Rattle.client.proofs.ModbusRequest.send_many.Goals as goal
 
 pub returns : goal.returns
 returns c =

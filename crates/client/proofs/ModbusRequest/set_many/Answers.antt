@@ -1,4 +1,4 @@
--- `client::build::set_many` meets its contract: the data show the values, and what does not fit is refused first.
+-- `client::ModbusRequest::set_many` meets its contract: the data show the values, and what does not fit is refused first.
 -- Assumes nothing.
 use mathlib.Core.Path.{◌≡◌, sym, ap, ap₂, ◌∙◌}
 use mathlib.Core.List.{List}
@@ -14,8 +14,8 @@ use Rattle.modbus.specs.Paper.{kind_in}
 use Rattle.client.specs.Asking.{laid_into}
 use Rattle.client.proofs.LayLaws.{data_shown, most_1968, octets_246}
 use Rattle.client.proofs.BuildLaws.{many_built, many_unbuilt}
-use Rattle.client.proofs.build.set_many.Goals as goal
-use Rattle.client.proofs.build.set_many.Goals.{After-lay}
+use Rattle.client.proofs.ModbusRequest.set_many.Goals as goal
+use Rattle.client.proofs.ModbusRequest.set_many.Goals.{After-lay}
 
 long : length (replicate {A = ℕ} 246 0) ≡ 246
 long = length-replicate {A = ℕ} 246 0
@@ -24,7 +24,7 @@ pub returns-then-unfit : goal.returns-then-unfit
 returns-then-unfit c =
     let a = c.args in
     sym (ap (laid_into a.request.now)
-    (many_unbuilt a.to (length a.request.now) (kind_in a.kind) a.reg a.values.now (test_refuses _ _ c.unfit.ensures c.if-unfit.true)))
+    (many_unbuilt a.self (length a.request.now) (kind_in a.kind) a.reg a.values.now (test_refuses _ _ c.unfit.ensures c.if-unfit.true)))
 
 pub octets_of-octets-requires : goal.octets_of-octets-requires
 octets_of-octets-requires c =
@@ -79,4 +79,4 @@ returns c =
     let e = sent (goal.at.returns c).After-lay fits.0 fits.1 in
     c.send_many.ensures
     ∙ sym (ap (laid_into a.request.now)
-    (many_built a.to (length a.request.now) (kind_in a.kind) a.reg vs _ _ _ fits.1 e c.many_number.ensures (ap length e ∙ length_shown (kind_in a.kind) vs)))
+    (many_built a.self (length a.request.now) (kind_in a.kind) a.reg vs _ _ _ fits.1 e c.many_number.ensures (ap length e ∙ length_shown (kind_in a.kind) vs)))
