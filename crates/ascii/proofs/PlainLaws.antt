@@ -1,15 +1,15 @@
 -- A text of digits alone is read to its end, and gives what its pairs stand for; so does one that begins with digits, as far as they go.
 -- Assumes nothing.
+use Rattle.modbus.specs.declared.ErrorKind.{ErrorKind}
+use Rattle.std.specs.Prelude.{Result, Ok}
 use Rattle.std.proofs.Common.{◌≡◌, ℕ, zero, suc, ◌+◌, ◌-◌, ◌*◌, ◌/◌, ◌<◌, ◌≤◌, true, false, ◌⊎◌, List, [], ◌∷◌, length, get_or, take, drop, set, sym, refl, ap, ◌∙◌, inl, inr, ⊎_elim, add-one, arith, length-drop, length-set, drop_of_length-le, length-take}
 use lib.Bits.{bit_or, or_add_and, and_le_l, and_le_r}
 use lib.Seq.{sets}
 use Rattle.modbus.specs.Step.{go, choose, ◌≤?◌, ◌≟◌}
 use Rattle.modbus.specs.Bytes.{All}
-use Rattle.modbus.specs.Paper.{told, byte_paper}
+use Rattle.modbus.specs.Paper.{told, paper}
 use Rattle.modbus.specs.Hex.{undigit, untext}
 use Rattle.modbus.specs.declared.ErrorKind.TheVariants.{OOB}
-use Rattle.modbus.specs.declared.ByteAnswer.{ByteAnswer}
-use Rattle.modbus.specs.declared.ByteAnswer.TheVariants as byte
 use Rattle.modbus.proofs.StepLaws.{follow, bound, pick_yes, pick_no, picked}
 use Rattle.modbus.proofs.PaperLaws.{byte_value}
 use Rattle.modbus.proofs.HexLaws.{undigit_figure, undigit_letter, undigit_none, digit_undigit}
@@ -68,7 +68,7 @@ value_undigit c v e =
     (λ _ q. let z : ◌≡◌ {A = ℕ} 0 1 = cc in absurd (omega arith)))
 
 -- r was answered for a character
-pub value_told : (r : ByteAnswer) (c v : ℕ) → byte_paper r ≡ told (undigit c) → r ≡ byte.Value v → (v < 16) × (Digit c × (v ≡ value c))
+pub value_told : (r : Result ℕ ErrorKind) (c v : ℕ) → paper r ≡ told (undigit c) → r ≡ Ok v → (v < 16) × (Digit c × (v ≡ value c))
 value_told r c v e q = let u = byte_value r (undigit c) v e q in ((digit_undigit c v u).0, value_undigit c v u)
 
 -- pairs of digits stand for their values

@@ -1,7 +1,7 @@
 -- Each contract leaves one possible result, and one possible content of every lent buffer.
 -- Assumes nothing.
 use Rattle.std.proofs.Common.{ℕ, Bool, List, sym, refl, ap, ◌∙◌}
-use Rattle.modbus.proofs.Unique.{Unique, byte_paper_law, size_paper_law}
+use Rattle.modbus.proofs.Unique.{Unique, paper_law}
 use Rattle.ascii.proofs.other.Kinds as other-kinds
 use Rattle.ascii.proofs.other.Reads as other-reads
 use Rattle.ascii.proofs.low_digit.Kinds as low-digit-kinds
@@ -24,18 +24,18 @@ low_digit κs a x y u v p q = (p ∙ sym q, refl)
 pub parse_text : Unique 2 parse-text-kinds.ps parse-text-kinds.r parse-text-reads.Post
 parse_text κs a x y u v p q =
     let e = p ∙ sym q in
-    (byte_paper_law x y (ap (λ (t : (ℕ × ℕ) × List ℕ). t.0) e), ap (λ (t : (ℕ × ℕ) × List ℕ). (u.0, (u.1.0, (t.1, u.1.1.1)))) e)
+    (paper_law x y (ap (λ (t : (ℕ × ℕ) × List ℕ). t.0) e), ap (λ (t : (ℕ × ℕ) × List ℕ). (u.0, (u.1.0, (t.1, u.1.1.1)))) e)
 
 -- with the same parameters
 pub parse_ascii_frame : Unique 2 parse-ascii-frame-kinds.ps parse-ascii-frame-kinds.r parse-ascii-frame-reads.Post
 parse_ascii_frame κs a x y u v p q =
     let e = p ∙ sym q in
-    (byte_paper_law x y (ap (λ (t : (ℕ × ℕ) × List ℕ). t.0) e), ap (λ (t : (ℕ × ℕ) × List ℕ). (u.0, (u.1.0, (t.1, u.1.1.1)))) e)
+    (paper_law x y (ap (λ (t : (ℕ × ℕ) × List ℕ). t.0) e), ap (λ (t : (ℕ × ℕ) × List ℕ). (u.0, (u.1.0, (t.1, u.1.1.1)))) e)
 
 pub generate_ascii_frame : Unique 2 generate-ascii-frame-kinds.ps generate-ascii-frame-kinds.r generate-ascii-frame-reads.Post
 generate_ascii_frame κs a x y u v p q =
     let e = p ∙ sym q in
-    (size_paper_law x y (ap (λ (t : (ℕ × ℕ) × List ℕ). t.0) e), ap (λ (t : (ℕ × ℕ) × List ℕ). (u.0, (t.1, u.1.1))) e)
+    (paper_law x y (ap (λ (t : (ℕ × ℕ) × List ℕ). t.0) e), ap (λ (t : (ℕ × ℕ) × List ℕ). (u.0, (t.1, u.1.1))) e)
 
 -- the buffer is the first of the parameters
 pub put_text : Unique 2 put-text-kinds.ps put-text-kinds.r put-text-reads.Post

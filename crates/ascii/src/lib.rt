@@ -6,12 +6,12 @@ mod writing;
 
 ghost use Rattle.std.specs.Prelude.{◌≡◌, ◌%◌};
 ghost use Rattle.modbus.specs.Step.{choose};
-ghost use Rattle.modbus.specs.Paper.{byte_paper, size_paper};
+ghost use Rattle.modbus.specs.Paper.{paper};
 ghost use Rattle.modbus.specs.Hex.{spelt, digit};
 ghost use Rattle.ascii.specs.Reading.{parsed_into, parsed_under, put_text, generated_into};
 ghost use Rattle.ascii.specs.Plain.{digit?};
 
-use modbus::{ByteAnswer, ErrorKind, SizeAnswer};
+use modbus::ErrorKind;
 use reading::{colon, decode_pairs, parse_by_pairs, plain};
 use std::num::wrapping_sub_u8;
 use writing::{fits, lay_text, write_line, write_while_room};
@@ -37,8 +37,8 @@ pub fn parse_text(
     frame_buf: &mut [u8],
     frame_pos: u8,
     hex: u8,
-) -> ByteAnswer
-    ensures { (byte_paper result, frame_buf.new) ≡ parsed_into (spelt hex «data».now) data_len frame_buf.old frame_pos }
+) -> Result<u8, ErrorKind>
+    ensures { (paper result, frame_buf.new) ≡ parsed_into (spelt hex «data».now) data_len frame_buf.old frame_pos }
 {
     let at = frame_pos as usize;
     if !plain(data, data_len, frame_buf.len(), at) {
@@ -47,7 +47,7 @@ pub fn parse_text(
     let from = colon(data[0]);
     let n = (data_len - from) / 2;
     decode_pairs(data, from, n, frame_buf, at);
-    ByteAnswer::Value(n as u8)
+    Ok(n as u8)
 }
 
 // The crate's call, under a switch: 0 strict, 1 lenient.
@@ -57,11 +57,11 @@ pub fn parse_ascii_frame(
     frame_buf: &mut [u8],
     frame_pos: u8,
     hex: u8,
-) -> ByteAnswer
-    ensures { (byte_paper result, frame_buf.new) ≡ parsed_under hex «data».now data_len frame_buf.old frame_pos }
+) -> Result<u8, ErrorKind>
+    ensures { (paper result, frame_buf.new) ≡ parsed_under hex «data».now data_len frame_buf.old frame_pos }
 {
     if 1 < hex {
-        return ByteAnswer::Refused(ErrorKind::OOB);
+        return Err(ErrorKind::OOB);
     }
     parse_text(data, data_len, frame_buf, frame_pos, hex)
 }
@@ -105,12 +105,12 @@ pub fn put_text(dst: &mut [u8], at: usize, bytes: &[u8]) -> bool
 }
 
 // Writes the data as a line of text into the result, and answers how long the line is.
-pub fn generate_ascii_frame(data: &[u8], res: &mut [u8]) -> SizeAnswer
-    ensures { (size_paper result, res.new) ≡ generated_into «data».now res.old }
+pub fn generate_ascii_frame(data: &[u8], res: &mut [u8]) -> Result<usize, ErrorKind>
+    ensures { (paper result, res.new) ≡ generated_into «data».now res.old }
 {
     if !fits(data.len(), res.len()) {
         return write_while_room(data, res);
     }
     write_line(data, res);
-    SizeAnswer::Value(2 * data.len() + 3)
+    Ok(2 * data.len() + 3)
 }

@@ -2,7 +2,7 @@
 ghost use Rattle.std.specs.Prelude.{◌≡◌, ◌+◌, ◌-◌, ◌*◌, ◌<◌, ◌≤◌, true, false, ◌⊎◌, length, take, drop, slice_index_or};
 ghost use Rattle.std.proofs.lemmas.List.Edits.{sets};
 ghost use Rattle.modbus.specs.Step.{choose, ◌≟◌};
-ghost use Rattle.modbus.specs.Paper.{told, byte_paper};
+ghost use Rattle.modbus.specs.Paper.{told, paper};
 ghost use Rattle.modbus.specs.Bytes.{All};
 ghost use Rattle.modbus.specs.Hex.{undigit, spell, spelt};
 ghost use Rattle.ascii.specs.Reading.{stop_byte?, pair, parsed_into};
@@ -11,7 +11,7 @@ ghost use Rattle.ascii.specs.Said.{said};
 
 use crate::other;
 use checks::digit_under;
-use modbus::{ByteAnswer, ErrorKind};
+use modbus::ErrorKind;
 use octets::{least, put_byte};
 
 // LF, CR and NUL end a text.
@@ -44,14 +44,14 @@ fn pair_at(data: &[u8], end: usize, at: usize, hex: u8) -> Pair
         return Pair::Stop;
     }
     match digit_under(ch, hex) {
-        ByteAnswer::Refused(k) => Pair::Refused(k),
-        ByteAnswer::Value(c) => {
+        Err(k) => Pair::Refused(k),
+        Ok(c) => {
             if end <= at + 1 {
                 return Pair::Refused(ErrorKind::OOB);
             }
             match digit_under(data[at + 1], hex) {
-                ByteAnswer::Refused(k) => Pair::Refused(k),
-                ByteAnswer::Value(c2) => Pair::Byte(c * 0x10 + c2),
+                Err(k) => Pair::Refused(k),
+                Ok(c2) => Pair::Byte(c * 0x10 + c2),
             }
         }
     }
@@ -147,13 +147,13 @@ fn quick_pairs(end: usize, from: usize, room: usize, at: usize) -> usize
 }
 
 // What a digit 0-9 or A-F stands for: every switch reads these alike, and to ask for no other costs less.
-fn strict_digit(c: u8) -> ByteAnswer
-    ensures { byte_paper result ≡ told (undigit c) }
+fn strict_digit(c: u8) -> Result<u8, ErrorKind>
+    ensures { paper result ≡ told (undigit c) }
 {
     match c {
-        48..=57 => ByteAnswer::Value(c - 48),
-        65..=70 => ByteAnswer::Value(c - 55),
-        _ => ByteAnswer::Refused(ErrorKind::FrameBroken),
+        48..=57 => Ok(c - 48),
+        65..=70 => Ok(c - 55),
+        _ => Err(ErrorKind::FrameBroken),
     }
 }
 
@@ -165,10 +165,10 @@ fn decode_digits(data: &[u8], from: usize, n: usize, buf: &mut [u8], at: usize) 
     for i in 0..n {
         let k = from + 2 * i;
         match strict_digit(data[k]) {
-            ByteAnswer::Refused(_) => return i,
-            ByteAnswer::Value(a) => match strict_digit(data[k + 1]) {
-                ByteAnswer::Refused(_) => return i,
-                ByteAnswer::Value(b) => buf[at + i] = a * 16 + b,
+            Err(_) => return i,
+            Ok(a) => match strict_digit(data[k + 1]) {
+                Err(_) => return i,
+                Ok(b) => buf[at + i] = a * 16 + b,
             },
         }
     }
@@ -182,11 +182,11 @@ pub(crate) fn parse_by_pairs(
     frame_buf: &mut [u8],
     frame_pos: u8,
     hex: u8,
-) -> ByteAnswer
-    ensures { (byte_paper result, frame_buf.new) ≡ parsed_into (spelt hex «data».now) data_len frame_buf.old frame_pos }
+) -> Result<u8, ErrorKind>
+    ensures { (paper result, frame_buf.new) ≡ parsed_into (spelt hex «data».now) data_len frame_buf.old frame_pos }
 {
     if data.len() == 0 {
-        return ByteAnswer::Refused(ErrorKind::OOB);
+        return Err(ErrorKind::OOB);
     }
     let end = least(data_len, data.len());
     let from = colon(data[0]);
@@ -196,14 +196,14 @@ pub(crate) fn parse_by_pairs(
     let mut cpos = frame_pos + done as u8;
     while data_pos < end {
         if cpos == 255 {
-            return ByteAnswer::Refused(ErrorKind::OOB);
+            return Err(ErrorKind::OOB);
         }
         match pair_at(data, end, data_pos, hex) {
-            Pair::Refused(k) => return ByteAnswer::Refused(k),
-            Pair::Stop => return ByteAnswer::Value(cpos - frame_pos),
+            Pair::Refused(k) => return Err(k),
+            Pair::Stop => return Ok(cpos - frame_pos),
             Pair::Byte(b) => {
                 if !put_byte(frame_buf, cpos as usize, b) {
-                    return ByteAnswer::Refused(ErrorKind::OOB);
+                    return Err(ErrorKind::OOB);
                 }
             }
         }
@@ -211,7 +211,7 @@ pub(crate) fn parse_by_pairs(
         cpos += 1;
     }
     if data.len() < data_len {
-        return ByteAnswer::Refused(ErrorKind::OOB);
+        return Err(ErrorKind::OOB);
     }
-    ByteAnswer::Value(cpos - frame_pos)
+    Ok(cpos - frame_pos)
 }

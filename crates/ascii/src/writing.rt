@@ -2,13 +2,13 @@
 ghost use Rattle.std.specs.Prelude.{◌≡◌, ◌+◌, ◌*◌, ◌<◌, ◌≤◌, true, false, length};
 ghost use Rattle.std.proofs.lemmas.List.Edits.{sets};
 ghost use Rattle.modbus.specs.Step.{choose, ◌≤?◌};
-ghost use Rattle.modbus.specs.Paper.{size_paper};
+ghost use Rattle.modbus.specs.Paper.{paper};
 ghost use Rattle.modbus.specs.Hex.{digit, text};
 ghost use Rattle.modbus.specs.Frame.{line};
 ghost use Rattle.ascii.specs.Reading.{generated_into};
 ghost use Rattle.ascii.specs.PutTwo.{put_two};
 
-use modbus::{ErrorKind, SizeAnswer};
+use modbus::ErrorKind;
 use octets::put_byte;
 
 // The character of a half byte. By a sum: so the compiler writes sixteen at a time.
@@ -67,22 +67,22 @@ pub(crate) fn write_line(data: &[u8], res: &mut [u8])
 }
 
 // The same as far as there is room, character by character.
-pub(crate) fn write_while_room(data: &[u8], res: &mut [u8]) -> SizeAnswer
-    ensures { (size_paper result, res.new) ≡ generated_into «data».now res.old }
+pub(crate) fn write_while_room(data: &[u8], res: &mut [u8]) -> Result<usize, ErrorKind>
+    ensures { (paper result, res.new) ≡ generated_into «data».now res.old }
 {
     if !put_byte(res, 0, 58) {
-        return SizeAnswer::Refused(ErrorKind::OOB);
+        return Err(ErrorKind::OOB);
     }
     let mut at: usize = 1;
     for i in 0..data.len() {
         let d = data[i];
         if !put_two(res, at, character(d >> 4), character(d & 0xf)) {
-            return SizeAnswer::Refused(ErrorKind::OOB);
+            return Err(ErrorKind::OOB);
         }
         at += 2;
     }
     if !put_two(res, at, 0x0D, 0x0A) {
-        return SizeAnswer::Refused(ErrorKind::OOB);
+        return Err(ErrorKind::OOB);
     }
-    SizeAnswer::Value(at + 2)
+    Ok(at + 2)
 }

@@ -4,7 +4,7 @@ ghost use Rattle.std.specs.Prelude.{◌≤◌};
 
 use driver::{Driven, Setup};
 use octets::{byte, word};
-use records::parts::{eight, stands, wide};
+use records::parts::{Layout, eight, stands, wide};
 
 // The setup.
 const TRANSPORT: usize = 0;
@@ -59,13 +59,14 @@ const PART_FRONTS: u8 = 4;
 
 const PART_COUNT: u8 = 8;
 
-// Whether the record ends where its parts do.
-pub(crate) fn whole(record: &[u8]) -> bool {
-    record.len() == records::parts::start_of(record, LENGTHS, PARTS, PART_COUNT)
-}
+pub(crate) const LAYOUT: Layout = Layout {
+    lengths: LENGTHS,
+    parts: PARTS,
+    count: PART_COUNT,
+};
 
 fn part(record: &[u8], k: u8) -> &[u8] {
-    records::parts::part(record, LENGTHS, PARTS, k)
+    LAYOUT.part(record, k)
 }
 
 // The broadcast list, the frame, and the reply that is expected.
@@ -145,20 +146,12 @@ pub(crate) fn setup(record: &[u8]) -> Setup {
 
 // Whether a result tells what the record says.
 pub(crate) fn told(record: &[u8], got: Driven) -> bool {
-    if got.outcome != byte(record, OUTCOME) {
-        return false;
+    got == Driven {
+        length: reply(record).len(),
+        outcome: byte(record, OUTCOME),
+        code: byte(record, CODE),
+        table: byte(record, TABLE),
+        first: word(record, FIRST),
+        count: word(record, COUNT),
     }
-    if got.code != byte(record, CODE) {
-        return false;
-    }
-    if got.table != byte(record, TABLE) {
-        return false;
-    }
-    if got.first != word(record, FIRST) {
-        return false;
-    }
-    if got.count != word(record, COUNT) {
-        return false;
-    }
-    got.length == reply(record).len()
 }

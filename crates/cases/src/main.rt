@@ -7,9 +7,7 @@ mod fields;
 
 ghost use Rattle.std.specs.Prelude.{◌≤◌};
 
-use records::Tally;
 use records::parts::{lay, stands};
-use std::io::{Stdin, Stdout};
 
 // Room for tables of one cell more than there may be, and for every reply buffer of the list.
 const BITS: usize = 8193;
@@ -160,7 +158,7 @@ fn with_read(record: &[u8], filler: u8) -> bool {
 // Whether all comes out as the record says. It runs twice, with two fillers: a byte written behind the reply cannot be
 // equal to both.
 fn agrees(record: &[u8]) -> bool {
-    if !fields::whole(record) {
+    if !fields::LAYOUT.is_whole(record) {
         return false;
     }
     if !with_read(record, 0) {
@@ -169,32 +167,14 @@ fn agrees(record: &[u8]) -> bool {
     with_read(record, 255)
 }
 
-// A proved loop has to end, and nothing says that the list does. So the loop counts its turns, up to a number that no
-// list reaches.
-fn run(input: Stdin, out: Stdout, text: &mut [u8], record: &mut [u8]) -> Tally {
-    let mut s = records::start();
-    let mut t = Tally {
-        records: 0,
-        wrong: 0,
-    };
-    for _ in 0..1000000u32 {
-        s = records::next(input, text, record, s);
-        if !s.whole {
-            return t;
-        }
-        let len = s.len;
-        t = records::judged(out, t, agrees(&record[..len]));
-    }
-    t
-}
+// No list has so many records.
+const MOST: u32 = 1000000;
 
 fn main(rt: HostRuntime) {
-    let mut text = [0; 4096];
-    let mut record = [0; 4096];
-    let t = run(rt.stdin(), rt.stdout(), &mut text, &mut record);
+    let tally = records::run(rt.stdin(), rt.stdout(), MOST, agrees);
     records::report(
         rt.stdout(),
-        t,
+        tally,
         b"cases of document 01 run: ",
         b"cases that differ: ",
     );

@@ -22,7 +22,7 @@ use Rattle.incoming.specs.Envelope.{check_follows, Countable}
 use Rattle.outgoing.specs.Grow.{Response, response}
 use Rattle.frame.specs.State.{func_of, fresh, started, grown, responding_to, with_func, with_error, answering, counting, to_process, well, ended}
 use Rattle.frame.specs.Parse.{answered, read_accepted, read_parsed, many_accepted, requested, unsupported, function_named, header, for_us, addressed, frame_parsed}
-use Rattle.frame.specs.declared.ModbusError.TheVariants.{Unset}
+use Rattle.std.specs.Prelude.{None}
 use Rattle.frame.specs.declared.ModbusFrame.{ModbusFrame}
 use Rattle.frame.proofs.ParseLaws.{stay, read_excess, read_accepted_law, many_excess, many_long, many_accepted_law}
 use Rattle.chain.specs.Chain.{fullest}
@@ -43,7 +43,7 @@ ready p unit answers readonly fn start reg count len =
       func = func_of fn;
       reg = reg;
       count = count;
-      error = Unset;
+      error = None;
       response_len = len;
     }
 

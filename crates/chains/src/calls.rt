@@ -22,7 +22,8 @@ ghost use Rattle.std.specs.Prelude.{◌≤◌, ◌<◌};
 use crate::fields::{part, whole};
 use crate::said::{bare, changes, left, read_left, reported, write_left};
 use crate::state::state;
-use frame::{Left, ModbusFrame};
+use frame::ModbusFrame;
+use modbus::ErrorKind;
 use octets::byte;
 use records::parts::{cut, eight, lay, lay_counted, stands, wide};
 
@@ -33,26 +34,31 @@ pub(crate) const WORDS: usize = 131400;
 
 // A call to which no table is lent.
 fn called(record: &[u8], lent: &mut [u8]) -> bool {
-    let s = state(record);
+    let mut s = state(record);
     let buf = part(record, 0);
     let report = reported(byte(record, 1));
     match byte(record, 0) {
-        31 => left(record, s.parse(buf, part(record, 1), lent)),
-        34 => left(record, process::finalize_response(s, lent)),
-        35 => read_left(record, external::get_external_read(s, buf, lent)),
-        36 => write_left(record, external::get_external_write(s, buf, lent)),
-        37 => left(record, external::process_external_read(s, report, lent)),
-        38 => left(
-            record,
-            external::process_external_write(s, report, buf, lent),
-        ),
-        39 => left(record, external::set_modbus_error_if_unset(s, report, lent)),
-        40 => changes(record, s),
-        41 => {
-            let p = s.proto;
-            bare(record, 0, ModbusFrame::new(s.unit_id, p))
+        35 => {
+            let answer = external::get_external_read(&mut s, buf, lent);
+            read_left(record, answer, &s)
         }
-        _ => false,
+        36 => {
+            let answer = external::get_external_write(&mut s, buf, lent);
+            write_left(record, answer, &s)
+        }
+        40 => changes(record, &s),
+        41 => bare(record, 0, &ModbusFrame::new(s.unit_id, s.proto)),
+        call => {
+            let answer = match call {
+                31 => s.parse(buf, part(record, 1), lent),
+                34 => process::finalize_response(&mut s, lent),
+                37 => external::process_external_read(&mut s, report, lent),
+                38 => external::process_external_write(&mut s, report, buf, lent),
+                39 => external::set_modbus_error_if_unset(&mut s, report, lent),
+                _ => return false,
+            };
+            left(record, answer, &s)
+        }
     }
 }
 
@@ -117,8 +123,13 @@ fn kept(record: &[u8], t: u8, table: &[u8]) -> bool
 }
 
 // Coils and discretes stand in `bits`, holdings and inputs in `words`, one behind the other.
-fn read_called(record: &[u8], bits: &[u8], words: &[u8], lent: &mut [u8]) -> Left {
-    let s = state(record);
+fn read_called(
+    record: &[u8],
+    s: &mut ModbusFrame,
+    bits: &[u8],
+    words: &[u8],
+    lent: &mut [u8],
+) -> Result<(), ErrorKind> {
     process::process_read(
         s,
         part(record, 0),
@@ -143,33 +154,25 @@ fn read(record: &[u8], bits: &mut [u8], words: &mut [u8], lent: &mut [u8]) -> bo
     }
     lay_two(record, 0, bits);
     lay_two(record, 2, words);
-    left(record, read_called(record, bits, words, lent))
+    let mut s = state(record);
+    let answer = read_called(record, &mut s, bits, words, lent);
+    left(record, answer, &s)
 }
 
-fn write_called(record: &[u8], coils: &mut [u8], holdings: &mut [u8], lent: &mut [u8]) -> Left {
-    let s = state(record);
-    process::process_write(
-        s,
+fn written(record: &[u8], coils: &mut [u8], holdings: &mut [u8], lent: &mut [u8]) -> bool {
+    lay_table(record, 0, coils, 0);
+    lay_table(record, 2, holdings, 0);
+    let mut s = state(record);
+    let answer = process::process_write(
+        &mut s,
         part(record, 0),
         coils,
         table_cells(record, 0),
         holdings,
         table_cells(record, 2),
         lent,
-    )
-}
-
-fn written(record: &[u8], coils: &mut [u8], holdings: &mut [u8], lent: &mut [u8]) -> bool {
-    lay_table(record, 0, coils, 0);
-    lay_table(record, 2, holdings, 0);
-    let l = write_called(record, coils, holdings, lent);
-    if !left(record, l) {
-        return false;
-    }
-    if !kept(record, 0, coils) {
-        return false;
-    }
-    kept(record, 2, holdings)
+    );
+    left(record, answer, &s) && kept(record, 0, coils) && kept(record, 2, holdings)
 }
 
 fn write(record: &[u8], bits: &mut [u8], words: &mut [u8], lent: &mut [u8]) -> bool {

@@ -1,6 +1,8 @@
 // The state of a frame as it stands in a record.
-use frame::{FunctionAnswer, ModbusError, ModbusFrame, ModbusFunction, function_of};
-use modbus::{ModbusProto, ProtoAnswer, proto_of};
+ghost use Rattle.std.specs.Prelude.{◌<◌};
+
+use frame::{ModbusFrame, ModbusFunction};
+use modbus::ModbusProto;
 use octets::{byte, word};
 use records::parts::eight;
 
@@ -9,123 +11,62 @@ const BEFORE: usize = 2;
 
 const AFTER: usize = 30;
 
-fn proto(number: u8) -> ModbusProto {
-    match proto_of(number) {
-        ProtoAnswer::Value(p) => p,
-        ProtoAnswer::BadSetup => ModbusProto::TcpUdp,
-    }
-}
-
-fn proto_number(p: ModbusProto) -> u8 {
-    match p {
-        ModbusProto::Rtu => 0,
-        ModbusProto::Ascii => 1,
-        ModbusProto::TcpUdp => 2,
-    }
-}
-
-fn function(number: u8) -> ModbusFunction {
-    match function_of(number) {
-        FunctionAnswer::Value(f) => f,
-        FunctionAnswer::Unsupported => ModbusFunction::GetCoils,
-    }
-}
-
-fn function_number(f: ModbusFunction) -> u8 {
-    match f {
-        ModbusFunction::GetCoils => 1,
-        ModbusFunction::GetDiscretes => 2,
-        ModbusFunction::GetHoldings => 3,
-        ModbusFunction::GetInputs => 4,
-        ModbusFunction::SetCoil => 5,
-        ModbusFunction::SetHolding => 6,
-        ModbusFunction::SetCoilsBulk => 15,
-        ModbusFunction::SetHoldingsBulk => 16,
-    }
-}
-
-fn error(set: u8, code: u8) -> ModbusError {
-    if set == 0 {
-        return ModbusError::Unset;
-    }
-    ModbusError::Code(code)
-}
-
-// The state before the call.
-pub(crate) fn state(record: &[u8]) -> ModbusFrame {
-    let set = byte(record, BEFORE + 2);
+// The state at a place, where its numbers name this transport, this function and this error.
+fn state_at(
+    record: &[u8],
+    at: usize,
+    proto: ModbusProto,
+    func: ModbusFunction,
+    error: Option<u8>,
+) -> ModbusFrame
+    requires { at < 100 }
+{
+    let flags = byte(record, at + 2);
     ModbusFrame {
-        unit_id: byte(record, BEFORE),
-        proto: proto(byte(record, BEFORE + 1)),
-        processing_required: set % 2 == 1,
-        response_required: set / 2 % 2 == 1,
-        responding_to_fn: byte(record, BEFORE + 3),
-        readonly: set / 4 % 2 == 1,
-        frame_start: eight(record, BEFORE + 4),
-        func: function(byte(record, BEFORE + 12)),
-        reg: word(record, BEFORE + 13),
-        count: word(record, BEFORE + 15),
-        error: error(byte(record, BEFORE + 17), byte(record, BEFORE + 18)),
-        response_len: eight(record, BEFORE + 19),
+        unit_id: byte(record, at),
+        proto,
+        processing_required: flags % 2 == 1,
+        response_required: flags / 2 % 2 == 1,
+        responding_to_fn: byte(record, at + 3),
+        readonly: flags / 4 % 2 == 1,
+        frame_start: eight(record, at + 4),
+        func,
+        reg: word(record, at + 13),
+        count: word(record, at + 15),
+        error,
+        response_len: eight(record, at + 19),
     }
 }
 
-fn same_error(e: ModbusError, set: u8, code: u8) -> bool {
-    match e {
-        ModbusError::Unset => set == 0 && code == 0,
-        ModbusError::Code(c) => set == 1 && c == code,
-    }
+// The state before the call. A number of no transport stands for TCP, one of no function for a read of coils.
+pub(crate) fn state(record: &[u8]) -> ModbusFrame {
+    let proto = ModbusProto::try_from(byte(record, BEFORE + 1)).unwrap_or(ModbusProto::TcpUdp);
+    let func = ModbusFunction::try_from(byte(record, BEFORE + 12)).unwrap_or(
+        ModbusFunction::GetCoils,
+    );
+    let error = match byte(record, BEFORE + 17) {
+        0 => None,
+        _ => Some(byte(record, BEFORE + 18)),
+    };
+    state_at(record, BEFORE, proto, func, error)
 }
 
-fn same_flags(set: u8, processing_required: bool, response_required: bool, readonly: bool) -> bool {
-    if processing_required != (set % 2 == 1) {
-        return false;
+// The state expected, if its numbers are those of one.
+fn expected(record: &[u8]) -> Option<ModbusFrame> {
+    let proto = ModbusProto::try_from(byte(record, AFTER + 1)).ok()?;
+    let func = ModbusFunction::try_from(byte(record, AFTER + 12)).ok()?;
+    let error = match (byte(record, AFTER + 17), byte(record, AFTER + 18)) {
+        (0, 0) => None,
+        (1, code) => Some(code),
+        _ => return None,
+    };
+    if 8 <= byte(record, AFTER + 2) {
+        return None;
     }
-    if response_required != (set / 2 % 2 == 1) {
-        return false;
-    }
-    if readonly != (set / 4 % 2 == 1) {
-        return false;
-    }
-    set < 8
+    Some(state_at(record, AFTER, proto, func, error))
 }
 
 // Whether the state is the one expected.
-pub(crate) fn same_state(record: &[u8], s: ModbusFrame) -> bool {
-    if s.unit_id != byte(record, AFTER) {
-        return false;
-    }
-    let p = s.proto;
-    if proto_number(p) != byte(record, AFTER + 1) {
-        return false;
-    }
-    if !same_flags(
-        byte(record, AFTER + 2),
-        s.processing_required,
-        s.response_required,
-        s.readonly,
-    ) {
-        return false;
-    }
-    if s.responding_to_fn != byte(record, AFTER + 3) {
-        return false;
-    }
-    if s.frame_start != eight(record, AFTER + 4) {
-        return false;
-    }
-    let f = s.func;
-    if function_number(f) != byte(record, AFTER + 12) {
-        return false;
-    }
-    if s.reg != word(record, AFTER + 13) {
-        return false;
-    }
-    if s.count != word(record, AFTER + 15) {
-        return false;
-    }
-    let e = s.error;
-    if !same_error(e, byte(record, AFTER + 17), byte(record, AFTER + 18)) {
-        return false;
-    }
-    s.response_len == eight(record, AFTER + 19)
+pub(crate) fn same_state(record: &[u8], s: &ModbusFrame) -> bool {
+    expected(record) == Some(*s)
 }

@@ -2,13 +2,12 @@
 #![tactic(auto)]
 
 ghost use Rattle.std.specs.Prelude.{◌≡◌, ◌*◌, ◌/◌, ◌≤◌, length, take, drop};
-ghost use Rattle.modbus.specs.Paper.{told, told_kind, byte_paper, hex_paper};
+ghost use Rattle.modbus.specs.Paper.{told, told_kind, paper, hex_paper};
 ghost use Rattle.modbus.specs.Check.{shift, crc_byte, crc_from, crc};
 ghost use Rattle.modbus.specs.Hex.{undigit, kinded, spell, character};
 ghost use Rattle.checks.specs.Within.{lrc_within};
 
-use modbus::{ByteAnswer, ErrorKind, HexAnswer};
-use octets::least;
+use modbus::{ErrorKind, Digit};
 use std::num::wrapping_sub_u8;
 
 // The register after one bit.
@@ -97,7 +96,7 @@ fn crc_last(crc: u32, frame: &[u8], n: usize) -> u32
 pub fn calc_crc16(frame: &[u8], data_length: u8) -> u16
     ensures { result ≡ crc (take data_length frame.now) }
 {
-    let n = least(data_length as usize, frame.len());
+    let n = frame.len().min(data_length as usize);
     let fours = crc_fours(frame, n);
     let pairs = crc_pair(fours, frame, n);
     let c = crc_last(pairs, frame, n);
@@ -106,30 +105,30 @@ pub fn calc_crc16(frame: &[u8], data_length: u8) -> u16
 
 // The LRC of the first `data_length` bytes of the frame: a running byte, from which each is taken off, wrapping at 256. Where the frame
 // has fewer, FrameBroken.
-pub fn calc_lrc(frame: &[u8], data_length: u8) -> ByteAnswer
-    ensures { byte_paper result ≡ told (lrc_within frame.now data_length) }
+pub fn calc_lrc(frame: &[u8], data_length: u8) -> Result<u8, ErrorKind>
+    ensures { paper result ≡ told (lrc_within frame.now data_length) }
 {
     let n = data_length as usize;
     if frame.len() < n {
-        return ByteAnswer::Refused(ErrorKind::FrameBroken);
+        return Err(ErrorKind::FrameBroken);
     }
     let mut lrc: u8 = 0;
-    for i in 0..n {
-        lrc = wrapping_sub_u8(lrc, frame[i]);
+    for b in &frame[..n] {
+        lrc = wrapping_sub_u8(lrc, *b);
     }
-    ByteAnswer::Value(lrc)
+    Ok(lrc)
 }
 
 // What a character 0-9, A-F or a-f stands for, and which kind it is.
 #[tactic(auto, using(modbus::proofs::HexLaws::kinded_figure, modbus::proofs::HexLaws::kinded_capital, modbus::proofs::HexLaws::kinded_small, modbus::proofs::HexLaws::kinded_none))]
-pub fn chr_to_hex(c: u8) -> HexAnswer
+pub fn chr_to_hex(c: u8) -> Result<Digit, ErrorKind>
     ensures { hex_paper result ≡ told_kind (kinded c) }
 {
     match c {
-        48..=57 => HexAnswer::Number(c - 48),
-        65..=70 => HexAnswer::Capital(c - 55),
-        97..=102 => HexAnswer::Small(c - 87),
-        _ => HexAnswer::Refused(ErrorKind::FrameBroken),
+        48..=57 => Ok(Digit::Number(c - 48)),
+        65..=70 => Ok(Digit::Capital(c - 55)),
+        97..=102 => Ok(Digit::Small(c - 87)),
+        _ => Err(ErrorKind::FrameBroken),
     }
 }
 
@@ -137,31 +136,24 @@ pub fn chr_to_hex(c: u8) -> HexAnswer
 const STRICT: u8 = 0;
 
 // What a character stands for under a switch: where it is 0, a-f are no digits.
-pub fn digit_under(c: u8, hex: u8) -> ByteAnswer
-    ensures { byte_paper result ≡ told (undigit (spell hex c)) }
+pub fn digit_under(c: u8, hex: u8) -> Result<u8, ErrorKind>
+    ensures { paper result ≡ told (undigit (spell hex c)) }
 {
-    match chr_to_hex(c) {
-        HexAnswer::Number(v) => ByteAnswer::Value(v),
-        HexAnswer::Capital(v) => ByteAnswer::Value(v),
-        HexAnswer::Small(v) => {
-            if hex == STRICT {
-                return ByteAnswer::Refused(ErrorKind::FrameBroken);
-            }
-            ByteAnswer::Value(v)
-        }
-        HexAnswer::Refused(k) => ByteAnswer::Refused(k),
+    match chr_to_hex(c)? {
+        Digit::Small(_) if hex == STRICT => Err(ErrorKind::FrameBroken),
+        Digit::Number(v) | Digit::Capital(v) | Digit::Small(v) => Ok(v),
     }
 }
 
 // The character of a digit, or the crate's sum where `h` is none; where that does not fit a byte, OOB.
-pub fn hex_to_chr(h: u8) -> ByteAnswer
-    ensures { byte_paper result ≡ told (character h) }
+pub fn hex_to_chr(h: u8) -> Result<u8, ErrorKind>
+    ensures { paper result ≡ told (character h) }
 {
     if h < 10 {
-        ByteAnswer::Value(h + 48)
+        Ok(h + 48)
     } else if h <= 200 {
-        ByteAnswer::Value(h + 55)
+        Ok(h + 55)
     } else {
-        ByteAnswer::Refused(ErrorKind::OOB)
+        Err(ErrorKind::OOB)
     }
 }

@@ -6,16 +6,16 @@ use mathlib.Core.List.{List, ◌++◌, append_assoc}
 use Prim.Native.Nat.{ℕ, ◌+◌, ◌≤◌, ◌<◌}
 use native.Mathlib.Omega.{arith}
 use lib.ListN.{length, get_or, take, drop, length-drop, length-append}
-use Rattle.std.specs.Prelude.{Option, Some}
+use Rattle.std.specs.Prelude.{Option, Some, Result}
 use Rattle.std.specs.Int.{w16, to_be_bytes}
 use lib.Seq.{sets, sets-eq, length-sets, length-take-le, take_at, drop_at}
 use Rattle.modbus.specs.Step.{stop}
-use Rattle.modbus.specs.Paper.{proto_of, told_with, size_paper}
+use Rattle.modbus.specs.Paper.{proto_of, told_with, paper}
 use Rattle.modbus.specs.Setup.{room_for}
 use Rattle.modbus.specs.Frame.{tag_of, tag_length, start_of, around}
 use Rattle.modbus.specs.Decode.{no_room_quiet}
 use Rattle.modbus.specs.declared.Answer.{Answer}
-use Rattle.modbus.specs.declared.SizeAnswer.{SizeAnswer}
+use Rattle.modbus.specs.declared.ErrorKind.{ErrorKind}
 use Rattle.modbus.specs.declared.ModbusProto.{ModbusProto}
 use Rattle.modbus.specs.declared.ModbusProto.TheVariants.{Rtu, Ascii, TcpUdp}
 use Rattle.modbus.proofs.StepLaws.{pass, fail, follow, halt}
@@ -99,8 +99,8 @@ module _ (to : ModbusRequest) (n : ℕ) (frame : List ℕ) (small : n ≤ 253) (
       pub no_room : length out < len → roomed whole (length out) ≡ stop (silent no_room_quiet)
       no_room h = let k = sealed_length in fail _ _ _ (λ i. omega arith)
 
-      pub laid : ¬ (length out < len) → (r : SizeAnswer) (over : List ℕ)
-          → ◌≡◌ {A = (ℕ × ℕ) × List ℕ} (size_paper r, over) (told_with out (extended out 0 (take len after)))
+      pub laid : ¬ (length out < len) → (r : Result ℕ ErrorKind) (over : List ℕ)
+          → ◌≡◌ {A = (ℕ × ℕ) × List ℕ} (paper r, over) (told_with out (extended out 0 (take len after)))
           → ◌≡◌ {A = Answer × List ℕ} (record { value = len; kind = 0 }, over) (laid_into out (roomed whole (length out)))
       laid h r over q =
           let k = sealed_length in
@@ -120,9 +120,9 @@ back l b i h =
     ∙ take_at b (drop (i + length b) l) (length b) refl
 
 module _ (buffer head tail : List ℕ) (start : ℕ) (fits : start + length head + length tail ≤ length buffer) where
-  module _ (r s : SizeAnswer) (one two : List ℕ)
-      (e : ◌≡◌ {A = (ℕ × ℕ) × List ℕ} (size_paper r, one) (told_with buffer (extended buffer start head)))
-      (f : ◌≡◌ {A = (ℕ × ℕ) × List ℕ} (size_paper s, two) (told_with one (extended one (start + length head) tail))) where
+  module _ (r s : Result ℕ ErrorKind) (one two : List ℕ)
+      (e : ◌≡◌ {A = (ℕ × ℕ) × List ℕ} (paper r, one) (told_with buffer (extended buffer start head)))
+      (f : ◌≡◌ {A = (ℕ × ℕ) × List ℕ} (paper s, two) (told_with one (extended one (start + length head) tail))) where
     two_parts : two ≡ sets buffer start (head ++ tail)
     two_parts =
         let p = extended_put buffer head one start r e (omega arith) in

@@ -2,16 +2,13 @@
 -- Assumes nothing.
 use mathlib.Core.Bool.{Bool, true, false, not}
 use lib.Dec.{eqb}
-use Rattle.std.specs.Bool.{Decides}
 use Rattle.std.specs.Cmp.Lexicographic.{pointwise}
-use Rattle.std.proofs.Common.{⊎_elim}
-use Rattle.std.proofs.lemmas.Bool.{false≢true}
-use Rattle.std.proofs.lemmas.Bool.Decides.{eqb_tells}
-use Rattle.std.proofs.lemmas.Slice.Eq.{bytes_eq-Decides}
+use Rattle.transports.proofs.OpenedLaws.{differ}
+use Rattle.transports.proofs.AnswerLaws.{first_two}
 use mathlib.Core.Logic.{by_cases}
 use mathlib.Core.Path.{◌≡◌, refl, sym, ap, ap₂, ◌∙◌}
-use mathlib.Core.List.{List, [], ◌∷◌, head-eq_of_cons-eq, tail-eq_of_cons-eq}
-use Prim.Native.Nat.{ℕ, zero, suc, ◌+◌, ◌-◌, ◌*◌, ◌≤◌, ◌<◌}
+use mathlib.Core.List.{List, [], ◌∷◌}
+use Prim.Native.Nat.{ℕ, zero, suc, ◌-◌, ◌≤◌, ◌<◌}
 use native.Mathlib.Omega.{arith}
 use Rattle.std.specs.Prelude.{Some, None}
 use lib.ListN.{length, get_or, take, drop, length-drop}
@@ -42,32 +39,12 @@ tag_two zero a b h = absurd (omega arith)
 tag_two (suc zero) a b h = absurd (omega arith)
 tag_two (suc (suc n)) a b h = refl
 
--- the first two bytes tell the transaction
-pub tags_same : (n a b c d : ℕ) → 2 ≤ n → tag_of (proto_of n) a b ≡ tag_of (proto_of n) c d → (a ≡ c) × (b ≡ d)
-tags_same n a b c d h e =
-    let z : a ∷ b ∷ [] ≡ c ∷ d ∷ [] = sym (tag_two n a b h) ∙ e ∙ tag_two n c d h in
-    (head-eq_of_cons-eq z, head-eq_of_cons-eq (tail-eq_of_cons-eq z))
-
-pub tag_test : (n a b c d x y : ℕ) → 2 ≤ n → b < 256 → d < 256 → x ≡ a * 256 + b → y ≡ c * 256 + d
-    → not (eqb x y) ≡ choose (same? (tag_of (proto_of n) c d) (tag_of (proto_of n) a b)) false true
-tag_test n a b c d x y h k l e f =
-    ⊎_elim
-    (λ p.
-    let z : c ≡ a = omega (arith, p.1) in
-    let w : d ≡ b = omega (arith, p.1) in
-    ap not p.0 ∙ sym (pick_yes _ _ _ (ap₂ (λ (i j : ℕ). tag_of (proto_of n) i j) z w)))
-    (λ p. ap not p.0 ∙ sym (pick_no _ _ _ (λ q. let (z, w) = tags_same n c d a b h q in p.1 (omega arith))))
-    (eqb_tells x y)
-
--- ---- the echo
-
--- what `!=` says of two slices
-pub differ : (xs ys : List ℕ) (r : Bool) → r ≡ not (pointwise eqb xs ys) → (r ≡ true → ¬ (xs ≡ ys)) × (r ≡ false → xs ≡ ys)
-differ xs ys r e = by (pointwise eqb xs ys) (bytes_eq-Decides xs ys) e
-  where
-    by : (b : Bool) → Decides b (xs ≡ ys) → r ≡ not b → (r ≡ true → ¬ (xs ≡ ys)) × (r ≡ false → xs ≡ ys)
-    by true d e = ((λ t q. false≢true (sym e ∙ t)), (λ f. d.0 refl))
-    by false d e = ((λ t q. false≢true (d.1 q)), (λ f. absurd (false≢true (sym f ∙ e))))
+pub tag_test : (n : ℕ) (f g : List ℕ) (r : Bool) → 2 ≤ n → 2 ≤ length f → 2 ≤ length g → r ≡ not (pointwise eqb (take 2 f) (take 2 g))
+    → r ≡ choose (same? (tag_of (proto_of n) (get_or g 0 0) (get_or g 1 0)) (tag_of (proto_of n) (get_or f 0 0) (get_or f 1 0))) false true
+tag_test n f g true h k l e =
+    sym (pick_no _ _ _ (λ q. (differ _ _ true e).0 refl (first_two f k ∙ sym (tag_two n _ _ h) ∙ sym q ∙ tag_two n _ _ h ∙ sym (first_two g l))))
+tag_test n f g false h k l e =
+    sym (pick_yes _ _ _ (tag_two n _ _ h ∙ sym (first_two g l) ∙ sym ((differ _ _ false e).1 refl) ∙ first_two f k ∙ sym (tag_two n _ _ h)))
 
 -- ---- numbers out
 

@@ -11,6 +11,7 @@ use native.Mathlib.Nat.{zero-add, zero-div}
 use native.Mathlib.Decide.{dec_lt}
 use lib.ListN.{length, get_or, set, take, drop, replicate, length-append, length-replicate, get_or-append, drop_of_length-le}
 use lib.Seq.{sets, sets-eq, drop-cons, get_or-take, take_at, length-take-le}
+use Rattle.std.specs.Prelude.{⊤, Result, Ok, Err, IsOk}
 use lib.Dec.{eqb, ltb}
 use mir.Val.{bool_byte}
 use Rattle.std.specs.Bool.{MatchBool}
@@ -25,9 +26,6 @@ use Rattle.modbus.specs.Storage.{coil_at, put_coil, register_at, put_register, S
 use Rattle.modbus.specs.declared.ErrorKind.{ErrorKind}
 use Rattle.modbus.specs.declared.CellKind.{CellKind}
 use Rattle.modbus.specs.declared.CellKind.TheVariants.{Bits, Words}
-use Rattle.modbus.specs.declared.BitAnswer.{BitAnswer}
-use Rattle.modbus.specs.declared.BitAnswer.TheVariants as bit_answer
-use Rattle.modbus.specs.declared.DoneAnswer.{DoneAnswer}
 use Rattle.modbus.proofs.StepLaws.{pick_yes, pick_no}
 use Rattle.modbus.proofs.PaperLaws.{number_some}
 use Rattle.modbus.proofs.BytesLaws.{all_by, all_append, all_take}
@@ -65,7 +63,7 @@ above_is false vs h = sym (pick_yes (all_fit? bit vs) _ _ (all_by (Fits bit) vs 
 -- ---- values stored one by one
 
 -- a cell that lies inside is put
-pub cell_put : (S : Storage) (l after : List ℕ) (cells n v : ℕ) (r : DoneAnswer) → Sound S l cells → n < cells
+pub cell_put : (S : Storage) (l after : List ℕ) (cells n v : ℕ) (r : Result ⊤ ErrorKind) → Sound S l cells → n < cells
     → ◌≡◌ {A = (ℕ × ℕ) × List ℕ} (done_paper r, after) (told_with l (changed S l cells n v)) → after ≡ S.put l n v
 cell_put S l after cells n v r h k e =
     let z = changed_inside S l cells n v (rw (size_sound S l cells h) k) in
@@ -211,19 +209,20 @@ front_whole cells items vs n e h q =
     ap (λ (l : List ℕ). l ++ drop n cells) (q ∙ a ∙ ap (λ (l : List ℕ). vs ++ l) z ∙ append-nil vs) ∙ ap (λ (i : ℕ). vs ++ drop i cells) y ∙ sym b
 
 -- one coil of data bytes, which the call answers
-module _ (d : List ℕ) (n i : ℕ) (sound : Sound packed d n) (inside : i < n) (r : BitAnswer) (e : bit_paper r ≡ told (got packed d n i)) where
+module _ (d : List ℕ) (n i : ℕ) (sound : Sound packed d n) (inside : i < n) (r : Result Bool ErrorKind) (e : bit_paper r ≡ told (got packed d n i)) where
   got_coil : bit_paper r ≡ (0, coil_at d i)
   got_coil = e ∙ ap told (got_inside packed d n i (rw (size_sound packed d n sound) inside))
 
-  pub bit_got : (b : Bool) → r ≡ bit_answer.Value b → (v : ℕ) → digit_of b ≡ v → v ≡ coil_at d i
+  pub bit_got : (b : Bool) → r ≡ Ok b → (v : ℕ) → digit_of b ≡ v → v ≡ coil_at d i
   bit_got b q v w = sym w ∙ ap (λ (p : ℕ × ℕ). p.1) (sym (ap bit_paper q) ∙ got_coil)
 
-  pub bit_never : (k : ErrorKind) → r ≡ bit_answer.Refused k → ⊥
-  bit_never k q = number_some k (ap (λ (p : ℕ × ℕ). p.0) (sym (ap bit_paper q) ∙ got_coil))
+pub bit_answered : (r : Result Bool ErrorKind) (d : List ℕ) (n i : ℕ) → Sound packed d n → i < n → bit_paper r ≡ told (got packed d n i) → IsOk r
+bit_answered (Ok b) d n i sound inside e = refl
+bit_answered (Err k) d n i sound inside e = absurd (number_some k (ap (λ (p : ℕ × ℕ). p.0) (got_coil d n i sound inside (Err k) e)))
 
 -- ---- by the kind
 
-module _ (l after : List ℕ) (n i v : ℕ) (r : DoneAnswer) (few : n ≤ 1968) (inside : i < n) where
+module _ (l after : List ℕ) (n i v : ℕ) (r : Result ⊤ ErrorKind) (few : n ≤ 1968) (inside : i < n) where
   pub put_bit : (b : CellKind) → b ≡ Bits → Fits (kind_in b) v → octets (kind_in b) n ≤ length l
       → ◌≡◌ {A = (ℕ × ℕ) × List ℕ} (done_paper r, after) (told_with l (changed packed l n i (digit_of (eqb v 1))))
       → after ≡ (storage (target (kind_in b))).put l i v

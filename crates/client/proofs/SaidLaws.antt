@@ -22,14 +22,12 @@ use Rattle.requests.specs.declared.Cells.{Cells}
 use Rattle.requests.specs.declared.ReadCells.{ReadCells}
 use Rattle.requests.specs.declared.Mask.{Mask}
 use Rattle.requests.specs.declared.Exchange.{Exchange}
-use Rattle.requests.specs.declared.Write.TheVariants.{Bits, Words}
-use Rattle.requests.specs.declared.Request.{Request}
 use Rattle.requests.specs.declared.Request.TheVariants as request
 use Rattle.requests.specs.declared.Refusal.{Refusal}
 use Rattle.requests.proofs.FineLaws.{Stores, Fine, FineRead, FineWrite, FineMask, FineBoth, fine}
 use Rattle.requests.proofs.Unique.{verdict_paper_law}
 use Rattle.client.specs.Asking.{Declined, bad_request, every_cell, no_broadcast, said_by, shown_count, replied}
-use Rattle.client.specs.Hearing.{echoed, failed, Said, Unsaid, replied_to}
+use Rattle.client.specs.Hearing.{echoed, failed, Said, Unsaid, values_of, replied_to}
 use Rattle.client.proofs.FunctionLaws.{by_step}
 
 -- ---- the request that a body says
@@ -120,16 +118,8 @@ module _ (n : ℕ) (b : List ℕ) where
         goes = h.goes;
       }
 
-  -- how many values the answer shows
-  abbrev pub shown_by : Request → ℕ
-  shown_by (request.Read q) = q.count
-  shown_by (request.WriteBits c) = 0
-  shown_by (request.WriteWords c) = 0
-  shown_by (request.Mask m) = 0
-  shown_by (request.Exchange x) = x.read_count
-
   module _ (bytes : (i : ℕ) → get_or b i 0 < 256) (v : Verdict) (e : verdict_paper v ≡ verdict_paper (judged (every_cell n) false b)) where
-    tells : (v : Verdict) → Fine (every_cell n) false b v → MatchResult v (λ q. Said n b (shown_by q)) (λ r. Unsaid n b)
+    tells : (v : Verdict) → Fine (every_cell n) false b v → MatchResult v (λ q. Said n b (values_of q)) (λ r. Unsaid n b)
     tells (Ok (request.Read q)) h = read_said q h
     tells (Ok (request.WriteBits c)) h = stores_said bit c h
     tells (Ok (request.WriteWords c)) h = stores_said word c h
@@ -137,5 +127,5 @@ module _ (n : ℕ) (b : List ℕ) where
     tells (Ok (request.Exchange x)) h = both_said x h
     tells (Err r) h = ap failed h.0
 
-    pub verdict_said : (q : Verdict) → v ≡ q → MatchResult q (λ a. Said n b (shown_by a)) (λ r. Unsaid n b)
+    pub verdict_said : (q : Verdict) → v ≡ q → MatchResult q (λ a. Said n b (values_of a)) (λ r. Unsaid n b)
     verdict_said q f = tells q (fine (every_cell n) false b bytes (verdict_paper_law _ _ e) f)

@@ -10,6 +10,8 @@ use Rattle.modbus.specs.Decode.{Message, no_room_quiet, IsRead}
 use Rattle.modbus.specs.declared.Answer.{Answer}
 use Rattle.requests.specs.Judged.{weighed}
 use Rattle.client.specs.declared.ModbusRequest.{ModbusRequest}
+use Rattle.requests.specs.declared.Request.{Request}
+use Rattle.requests.specs.declared.Request.TheVariants as request
 use Rattle.transports.specs.Opened.{fault_of}
 use Rattle.client.specs.declared.Reading.{Reading}
 use Rattle.client.specs.declared.Refusal.{Refusal}
@@ -104,6 +106,14 @@ pub record Said (n : ℕ) (b : List ℕ) (count : ℕ) : Type 0 where
   pub ask : Ask
   pub asks : Asks ask count b
   pub goes : weighed (every_cell n) false b ≡ go ask
+
+-- so many values, by the request as it is judged
+abbrev pub values_of : Request → ℕ
+values_of (request.Read q) = q.count
+values_of (request.WriteBits c) = 0
+values_of (request.WriteWords c) = 0
+values_of (request.Mask m) = 0
+values_of (request.Exchange x) = x.read_count
 
 -- or none
 abbrev pub Unsaid : ℕ → List ℕ → Type 0

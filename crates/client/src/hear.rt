@@ -10,7 +10,6 @@ ghost use Rattle.client.specs.Hearing.{message_in, echoed, Showing, Asks, heard_
 use crate::lay::{octets_of, spread};
 use crate::{Heard, Refusal};
 use modbus::CellKind;
-use octets::word;
 use transports::body_of;
 
 // The code of an exception to this function: three bytes, and a code other than 0.
@@ -90,7 +89,7 @@ fn other_tag(proto: u8, request: &[u8], response: &[u8]) -> bool
     requires { (2 ≤ length request.now) × (2 ≤ length response.now) }
     ensures { result ≡ choose (same? (tag_of (proto_of proto) (get_or response.now 0 0) (get_or response.now 1 0)) (tag_of (proto_of proto) (get_or request.now 0 0) (get_or request.now 1 0))) false true }
 {
-    2 <= proto && word(request, 0) != word(response, 0)
+    2 <= proto && request[..2] != response[..2]
 }
 
 // A reply to the request whose body is `sent`, to which an answer shows so many values.

@@ -9,7 +9,7 @@ ghost use Rattle.modbus.specs.Paper.{kind_in};
 ghost use Rattle.modbus.specs.Storage.{coil_at, storage, store, datum, values};
 ghost use Rattle.client.specs.Asking.{all_fit?};
 
-use modbus::{BitAnswer, CellKind};
+use modbus::CellKind;
 use octets::word;
 use tables::coils::{get_coil, set_coil};
 use tables::registers::set_holding;
@@ -39,10 +39,10 @@ fn put(kind: CellKind, value: u16, bytes: &mut [u8], n: usize, i: usize)
 {
     match kind {
         CellKind::Bits => {
-            set_coil(bytes, n, i as u16, value == 1);
+            let _ = set_coil(bytes, n, i as u16, value == 1);
         }
         CellKind::Words => {
-            set_holding(bytes, n, i as u16, value);
+            let _ = set_holding(bytes, n, i as u16, value);
         }
     }
 }
@@ -62,10 +62,7 @@ fn bit_of(bytes: &[u8], n: usize, i: usize) -> u16
     requires { (i < n) × (n ≤ 8 * length bytes.now) × (n ≤ 2000) }
     ensures { result ≡ coil_at bytes.now i }
 {
-    match get_coil(bytes, n, i as u16) {
-        BitAnswer::Refused(_) => 0,
-        BitAnswer::Value(on) => on as u16,
-    }
+    get_coil(bytes, n, i as u16).unwrap() as u16
 }
 
 // Cell i of n.

@@ -10,17 +10,16 @@ ghost use Rattle.std.specs.Prelude.{◌≡◌, ℕ, length, IfOk, IfErr};
 ghost use Rattle.modbus.specs.Step.{go};
 ghost use Rattle.modbus.specs.Request.{masks, swaps};
 ghost use Rattle.client.specs.Asking.{declined_by, asker, getting, setting, generated, laid_into, understood, read_into};
-ghost use Rattle.client.specs.Hearing.{refusal_of, answer_of, reading_of, Said, Unsaid};
+ghost use Rattle.client.specs.Hearing.{refusal_of, answer_of, reading_of, values_of, Said, Unsaid};
 ghost use Rattle.client.specs.declared.Refusal.TheVariants.{BadRequest, Unopened};
 
-use build::{pair, send, send_both, set};
 use hear::hear;
 use lay::lay;
 use modbus::{Answer, CellKind};
 use requests::{Request, judge};
 use transports::{Fault, body_of};
 
-// Whom to ask, and how: the transaction number (TCP alone), the unit, and the transport's number (0 RTU, 1 ASCII, 2 TCP).
+// Whom to ask, and how: the transaction number (TCP alone), the unit, and the transport's number (0 RTU, 1 ASCII, 2 TCP), as C has it.
 #[repr(C)]
 #[derive(Clone, Copy)]
 pub struct ModbusRequest {
@@ -29,7 +28,7 @@ pub struct ModbusRequest {
     pub proto: u8,
 }
 
-// What a reply says: 0 and how many values, 2 and the exception's code, or the number of a refusal.
+// What a reply says, as C has it: 0 and how many values, 2 and the exception's code, or the number of a refusal.
 #[repr(C)]
 #[derive(Clone, Copy)]
 pub struct Reading {
@@ -102,9 +101,9 @@ impl From<Result<Heard, Refusal>> for Reading {
             Err(refusal) => (0, refusal.number(), 0),
         };
         Reading {
-            count: count,
-            outcome: outcome,
-            code: code,
+            count,
+            outcome,
+            code,
         }
     }
 }
@@ -116,8 +115,8 @@ impl ModbusRequest {
     {
         ModbusRequest {
             tr_id: 1,
-            unit_id: unit_id,
-            proto: proto,
+            unit_id,
+            proto,
         }
     }
 
@@ -125,8 +124,8 @@ impl ModbusRequest {
         ensures { result ≡ asker tr_id unit_id 2 }
     {
         ModbusRequest {
-            tr_id: tr_id,
-            unit_id: unit_id,
+            tr_id,
+            unit_id,
             proto: 2,
         }
     }
@@ -138,15 +137,15 @@ impl ModbusRequest {
         if 4 < func {
             return answer(Err(Refusal::BadRequest));
         }
-        let head = pair(self.unit_id, func, reg, count);
-        answer(send(self, &head, &[], request))
+        let head = self.pair(func, reg, count);
+        answer(self.send(&head, &[], request))
     }
 
     // A request that writes the values from `reg` on: functions 5 and 6 one, 15 and 16 as many as there are.
     pub fn generate_set(self, func: u8, reg: u16, values: &[u16], request: &mut [u8]) -> Answer
         ensures { (result, request.new) ≡ laid_into request.old (generated self (setting self.proto func reg values.now) (length request.old)) }
     {
-        answer(set(self, func, reg, values, request))
+        answer(self.set(func, reg, values, request))
     }
 
     // A request that keeps the bits of a holding where the first mask has ones and makes the others the second's: function 22.
@@ -157,7 +156,7 @@ impl ModbusRequest {
         let [c, d] = and_mask.to_be_bytes();
         let [e, f] = or_mask.to_be_bytes();
         let head = [self.unit_id, 22, a, b, c, d, e, f];
-        answer(send(self, &head, &[], request))
+        answer(self.send(&head, &[], request))
     }
 
     // A request that writes the values from `write_reg` on, and then reads `count` holdings from `reg` on: function 23.
@@ -176,22 +175,29 @@ impl ModbusRequest {
         }
         let mut data = [0u8; 242];
         lay(CellKind::Words, values, &mut data);
-        let n = values.len() as u16;
-        answer(send_both(self, reg, count, write_reg, n, &data, request))
+        let n = values.len();
+        answer(self.send_both(reg, count, write_reg, n as u16, &data[..2 * n], request))
     }
 }
 
-// How many values an answer shows to the request that the body says, if it says one.
+// How many values an answer to a request shows.
+fn values_of(asked: Request) -> usize
+    ensures { result ≡ values_of asked }
+{
+    match asked {
+        Request::Read(q) => q.count as usize,
+        Request::Exchange(x) => x.read_count as usize,
+        Request::WriteBits(_) | Request::WriteWords(_) | Request::Mask(_) => 0,
+    }
+}
+
+// The same of the request that a body says, if it says one.
 fn shown_by(sent: &[u8]) -> Result<usize, Refusal>
     ensures ok { (n : ℕ) → IfOk result (λ count. Said n sent.now count) }
     ensures err { (n : ℕ) → IfErr result (λ refusal. (refusal ≡ BadRequest) × Unsaid n sent.now) }
 {
     match judge(sent, false, 65536, 65536, 65536, 65536) {
-        Ok(Request::Read(q)) => Ok(q.count as usize),
-        Ok(Request::Exchange(x)) => Ok(x.read_count as usize),
-        Ok(Request::WriteBits(_)) => Ok(0),
-        Ok(Request::WriteWords(_)) => Ok(0),
-        Ok(Request::Mask(_)) => Ok(0),
+        Ok(asked) => Ok(values_of(asked)),
         Err(_) => Err(Refusal::BadRequest),
     }
 }

@@ -11,11 +11,13 @@ ghost use Rattle.lengths.specs.Guess.{request_body, response_body};
 ghost use Rattle.driver.specs.Driven.{lending, leaving, called};
 ghost use Rattle.client.specs.Asking.{getting, setting, generated, laid_into, understood, read_into};
 ghost use Rattle.collector.specs.Collected.{offered, quieted, left_by};
-ghost use Rattle.dalonjang.specs.Numbered.{side_body, guessed};
+ghost use Rattle.lengths.specs.Side.{body_of};
+ghost use Rattle.dalonjang.specs.Numbered.{guessed};
 
 use client::{ModbusRequest, Reading};
 use driver::{Driven, Setup};
-use modbus::{Answer, ProtoAnswer};
+use lengths::Side;
+use modbus::{Answer, ErrorKind, ModbusProto};
 
 pub fn dalonjang_drive(
     setup: Setup,
@@ -38,7 +40,7 @@ pub fn dalonjang_drive(
 pub fn dalonjang_offer(state: &mut [u8], bytes: &[u8]) -> Answer
     ensures { ((result.kind, result.value), state.new) ≡ told_with state.old (offered state.old bytes.now) }
 {
-    modbus::size_answer(collector::offer(state, bytes))
+    Answer::from(collector::offer(state, bytes))
 }
 
 pub fn dalonjang_quiet(
@@ -68,13 +70,13 @@ pub fn dalonjang_parse_ascii_frame(
 ) -> Answer
     ensures { ((result.kind, result.value), frame_buf.new) ≡ parsed_under hex «data».now data_len frame_buf.old frame_pos }
 {
-    modbus::byte_answer(ascii::parse_ascii_frame(data, data_len, frame_buf, frame_pos, hex))
+    Answer::from(ascii::parse_ascii_frame(data, data_len, frame_buf, frame_pos, hex))
 }
 
 pub fn dalonjang_generate_ascii_frame(data: &[u8], res: &mut [u8]) -> Answer
     ensures { ((result.kind, result.value), res.new) ≡ generated_into «data».now res.old }
 {
-    modbus::size_answer(ascii::generate_ascii_frame(data, res))
+    Answer::from(ascii::generate_ascii_frame(data, res))
 }
 
 pub fn dalonjang_calc_crc16(frame: &[u8], data_length: u8) -> u16
@@ -84,34 +86,28 @@ pub fn dalonjang_calc_crc16(frame: &[u8], data_length: u8) -> u16
 }
 
 // A request's length, or a response's, by the switch and the transport's number.
-fn guess_frame_len(request: bool, frame: &[u8], proto: u8, hex: u8) -> Answer
-    ensures { (result.kind, result.value) ≡ guessed hex (side_body request) proto frame.now }
+fn guess_frame_len(side: Side, frame: &[u8], proto: u8, hex: u8) -> Answer
+    ensures { (result.kind, result.value) ≡ guessed hex (body_of side) proto frame.now }
 {
     if 1 < hex {
-        return Answer { value: 0, kind: 21 };
+        return Answer::from(ErrorKind::OOB);
     }
-    let transport = modbus::proto_of(proto);
-    match transport {
-        ProtoAnswer::BadSetup => Answer { value: 0, kind: 10 },
-        ProtoAnswer::Value(p) => {
-            if request {
-                return modbus::byte_answer(lengths::guess_request_frame_len(frame, p, hex));
-            }
-            modbus::byte_answer(lengths::guess_response_frame_len(frame, p, hex))
-        }
+    match ModbusProto::try_from(proto) {
+        Ok(p) => Answer::from(lengths::guess_frame_len(side, frame, p, hex)),
+        Err(e) => Answer::from(e),
     }
 }
 
 pub fn dalonjang_guess_request_frame_len(frame: &[u8], proto: u8, hex: u8) -> Answer
     ensures { (result.kind, result.value) ≡ guessed hex request_body proto frame.now }
 {
-    guess_frame_len(true, frame, proto, hex)
+    guess_frame_len(Side::Request, frame, proto, hex)
 }
 
 pub fn dalonjang_guess_response_frame_len(buf: &[u8], proto: u8, hex: u8) -> Answer
     ensures { (result.kind, result.value) ≡ guessed hex response_body proto buf.now }
 {
-    guess_frame_len(false, buf, proto, hex)
+    guess_frame_len(Side::Response, buf, proto, hex)
 }
 
 pub fn dalonjang_generate_get(

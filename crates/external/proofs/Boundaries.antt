@@ -19,15 +19,13 @@ use Rattle.frame.proofs.Boundaries.{error_of}
 use Rattle.process.specs.Process.{legal?}
 use Rattle.frame.specs.declared.ModbusFunction.{ModbusFunction}
 use Rattle.frame.specs.declared.ModbusFunction.TheVariants.{GetCoils, GetDiscretes, GetHoldings, GetInputs, SetCoil, SetHolding, SetCoilsBulk, SetHoldingsBulk}
-use Rattle.frame.specs.declared.ModbusError.{ModbusError}
-use Rattle.frame.specs.declared.ModbusError.TheVariants.{Unset, Code}
+use Rattle.std.specs.Prelude.{Option, Some, None, Ok, Err}
 use Rattle.frame.specs.declared.ModbusFrame.{ModbusFrame}
-use Rattle.external.specs.External.{Described, report_code, error_set_if_unset, report_processed, external_read_processed, external_write_processed, guarded, indexed, coil_described, holding_described, data_len, many_described, external_read, external_write}
-use Rattle.external.specs.declared.Reported.{Reported}
-use Rattle.external.specs.declared.Reported.TheVariants as report
+use Rattle.external.specs.External.{Described, Reported, report_code, error_set_if_unset, report_processed, external_read_processed, external_write_processed, guarded, indexed, coil_described, holding_described, data_len, many_described, external_read, external_write}
+use Rattle.external.specs.declared.Failure.TheVariants as failure
 
 -- a state whose frame starts at the first byte, from cell 9 on with this count, whose response has n bytes
-abbrev asking : ModbusProto → ModbusFunction → ℕ → ModbusError → ℕ → ModbusFrame
+abbrev asking : ModbusProto → ModbusFunction → ℕ → Option ℕ → ℕ → ModbusFrame
 asking p f count e n = state_of 1 p true true 0 true 0 f 9 count e n
 
 -- the kind, the code, the bytes of the response
@@ -38,8 +36,8 @@ left a = (a.kind, error_of a.frame.error, take a.frame.response_len a.out)
 
 abbrev reports : List Reported
 reports =
-    report.Done ∷ report.IllegalFunction ∷ report.IllegalDataAddress ∷ report.Refused OOB ∷ report.Refused OOBContext ∷ report.Refused FrameBroken
-    ∷ report.Refused FrameCRCError ∷ report.Refused IllegalDataValue ∷ report.Refused ReadCallOnWriteFrame ∷ report.Refused WriteCallOnReadFrame ∷ []
+    Ok tt ∷ Err failure.IllegalFunction ∷ Err failure.IllegalDataAddress ∷ Err (failure.Refused OOB) ∷ Err (failure.Refused OOBContext) ∷ Err (failure.Refused FrameBroken)
+    ∷ Err (failure.Refused FrameCRCError) ∷ Err (failure.Refused IllegalDataValue) ∷ Err (failure.Refused ReadCallOnWriteFrame) ∷ Err (failure.Refused WriteCallOnReadFrame) ∷ []
 
 pub codes : map report_code reports ≡ 0 ∷ 1 ∷ 2 ∷ 0 ∷ 0 ∷ 0 ∷ 0 ∷ 3 ∷ 0 ∷ 0 ∷ []
 unfolding ℕ_discrete choose
@@ -48,7 +46,7 @@ codes = refl
 -- of a read, on a response of five bytes: done leaves it; a Modbus error leaves four bytes of it on TCP and none on a serial line; any other kind
 -- is handed on by its number
 abbrev reading : ModbusProto → Reported → ℕ × ℕ × List ℕ
-reading p e = left (external_read_processed e (asking p GetCoils 1 Unset 5) (1 ∷ 2 ∷ 3 ∷ 4 ∷ 5 ∷ []))
+reading p e = left (external_read_processed e (asking p GetCoils 1 None 5) (1 ∷ 2 ∷ 3 ∷ 4 ∷ 5 ∷ []))
 
 pub reported :
     ◌≡◌ {A = List (List (ℕ × ℕ × List ℕ))} (map (reading TcpUdp) reports ∷ map (reading Rtu) (take 4 reports) ∷ map (reading Ascii) (take 3 reports) ∷ [])
@@ -71,18 +69,18 @@ reported = refl
 
 -- an error to set on TCP where two bytes stand: four are left, or there is no room for them; where one is set it stays, and so does the response;
 -- what is no Modbus error sets nothing
-abbrev setting : Reported → ModbusError → ℕ → ℕ × ℕ × List ℕ
+abbrev setting : Reported → Option ℕ → ℕ → ℕ × ℕ × List ℕ
 setting r e room = left (error_set_if_unset r (asking TcpUdp GetCoils 1 e 2) (replicate room 9))
 
 pub errors :
     ◌≡◌ {A = List (ℕ × ℕ × List ℕ)}
-    (setting report.IllegalFunction Unset 4
-    ∷ setting report.IllegalFunction Unset 3
-    ∷ setting report.IllegalFunction (Code 4) 4
-    ∷ setting (report.Refused IllegalDataValue) Unset 4
-    ∷ setting (report.Refused OOB) Unset 4
-    ∷ setting report.Done Unset 4
-    ∷ setting report.IllegalDataAddress Unset 1
+    (setting (Err failure.IllegalFunction) None 4
+    ∷ setting (Err failure.IllegalFunction) None 3
+    ∷ setting (Err failure.IllegalFunction) (Some 4) 4
+    ∷ setting (Err (failure.Refused IllegalDataValue)) None 4
+    ∷ setting (Err (failure.Refused OOB)) None 4
+    ∷ setting (Ok tt) None 4
+    ∷ setting (Err failure.IllegalDataAddress) None 1
     ∷ [])
     ((0, 1, 9 ∷ 9 ∷ 0 ∷ 0 ∷ [])
     ∷ (21, 0, 9 ∷ 9 ∷ [])
@@ -100,15 +98,15 @@ abbrev request : List ℕ
 request = 1 ∷ 5 ∷ 0 ∷ 9 ∷ 0xFF ∷ 0 ∷ []
 
 abbrev writing : ModbusFunction → Reported → List ℕ → ℕ × ℕ × List ℕ
-writing f e buf = left (external_write_processed e (asking Rtu f 1 Unset 0) buf (replicate 6 0))
+writing f e buf = left (external_write_processed e (asking Rtu f 1 None 0) buf (replicate 6 0))
 
 pub echoes :
     ◌≡◌ {A = List (ℕ × ℕ × List ℕ)}
-    (writing SetCoil report.Done request
-    ∷ writing SetCoil report.Done (take 5 request)
-    ∷ writing SetHoldingsBulk report.IllegalDataAddress request
-    ∷ writing GetCoils report.Done request
-    ∷ left (external_read_processed report.Done (asking Rtu SetCoil 1 Unset 0) [])
+    (writing SetCoil (Ok tt) request
+    ∷ writing SetCoil (Ok tt) (take 5 request)
+    ∷ writing SetHoldingsBulk (Err failure.IllegalDataAddress) request
+    ∷ writing GetCoils (Ok tt) request
+    ∷ left (external_read_processed (Ok tt) (asking Rtu SetCoil 1 None 0) [])
     ∷ [])
     ((0, 0, request) ∷ (23, 0, []) ∷ (0, 2, []) ∷ (26, 0, []) ∷ (27, 0, []) ∷ [])
 unfolding dec_le ℕ_discrete ◌>>=◌ ◌>>◌ need choose resized extended or_short begun report_processed
@@ -120,7 +118,7 @@ abbrev described : Described → (ℕ × ℕ × List ℕ) × List ℕ
 described d = (left d.left, d.numbers)
 
 abbrev wanting : ModbusProto → ModbusFunction → ℕ → ℕ → ℕ → (ℕ × ℕ × List ℕ) × List ℕ
-wanting p f count n room = described (external_read (asking p f count Unset n) (1 ∷ 7 ∷ []) (replicate room 8))
+wanting p f count n room = described (external_read (asking p f count None n) (1 ∷ 7 ∷ []) (replicate room 8))
 
 -- bits and words, the place behind what stands there, the length, filled with 0; room for all of it and one byte less; a count whose byte count
 -- wraps; a write
@@ -150,7 +148,7 @@ rooms = refl
 -- ---- what it is to write
 
 abbrev given : ModbusFunction → ℕ → List ℕ → (ℕ × ℕ × List ℕ) × List ℕ
-given f count buf = described (external_write (asking TcpUdp f count Unset 4) buf (7 ∷ 7 ∷ 7 ∷ 7 ∷ []))
+given f count buf = described (external_write (asking TcpUdp f count None 4) buf (7 ∷ 7 ∷ 7 ∷ 7 ∷ []))
 
 abbrev coil : ℕ → ℕ → List ℕ
 coil high low = 1 ∷ 5 ∷ 0 ∷ 9 ∷ high ∷ low ∷ []
@@ -188,7 +186,7 @@ places = refl
 
 -- sums up to the largest usize are an index beyond the frame, larger ones overflow: 4 is added for a coil, 6 for the others
 abbrev far : ModbusFunction → ℕ → ℕ
-far f start = (external_write (state_of 1 Rtu true true 0 true start f 0 1 Unset 0) [] []).left.kind
+far f start = (external_write (state_of 1 Rtu true true 0 true start f 0 1 None 0) [] []).left.kind
 
 pub sums :
     ◌≡◌ {A = List (ℕ × ℕ)}

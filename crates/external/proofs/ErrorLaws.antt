@@ -2,29 +2,24 @@
 -- Assumes nothing.
 use mathlib.Core.Path.{◌≡◌, refl, sym, ap, ◌∙◌}
 use mathlib.Core.List.{List}
-use Prim.Native.Nat.{ℕ, ◌≤◌, ◌<◌}
+use Prim.Native.Nat.{ℕ, zero, suc, ◌≤◌, ◌<◌}
+use native.Mathlib.Omega.{arith}
 use lib.ListN.{length}
+use Rattle.std.specs.Prelude.{Option, Some, None, Err}
 use Rattle.modbus.specs.Step.{stop, choose, ◌≟◌}
-use Rattle.modbus.specs.Ported.{Ported, reads, one, many}
-use Rattle.modbus.specs.Paper.{number, told_with, size_paper}
+use Rattle.modbus.specs.Paper.{number}
 use Rattle.modbus.specs.declared.ErrorKind.{ErrorKind}
 use Rattle.modbus.specs.declared.ErrorKind.TheVariants.{OOB, IllegalDataValue}
-use Rattle.modbus.specs.declared.SizeAnswer.{SizeAnswer}
-use Rattle.modbus.specs.declared.SizeAnswer.TheVariants as size
 use Rattle.modbus.proofs.StepLaws.{pick_yes, pick_no}
-use Rattle.modbus.proofs.PaperLaws.{told_same, value_with, refusal_with}
-use Rattle.response.specs.Bounded.{resized}
-use Rattle.frame.specs.State.{ported_of, grown, with_error, After, well, refused, ended, left_paper}
-use Rattle.external.specs.External.{len_to_leave, resized_to, error_set, kind_code, report_code, error_set_if_unset}
-use Rattle.external.specs.External.{read_done, write_done, failed_by}
-use Rattle.external.specs.Answers.{read_done_left}
-use Rattle.frame.specs.declared.ModbusError.{ModbusError}
-use Rattle.frame.specs.declared.ModbusError.TheVariants.{Unset, Code}
-use Rattle.frame.specs.declared.ModbusFunction.{ModbusFunction}
+use Rattle.modbus.proofs.PaperLaws.{told_same}
+use Rattle.frame.specs.State.{After, well, refused, ended}
+use Rattle.external.specs.External.{error_set, kind_code, report_code, error_set_if_unset}
+use Rattle.external.specs.External.{failed_by}
+use Rattle.external.specs.Answers.{coded}
 use Rattle.frame.specs.declared.ModbusFrame.{ModbusFrame}
-use Rattle.external.specs.declared.Reported.{Reported}
-use Rattle.external.specs.declared.Reported.TheVariants as report
-use Rattle.external.specs.External.{reported, report_processed}
+use Rattle.external.specs.declared.Failure.{Failure}
+use Rattle.external.specs.declared.Failure.TheVariants as failure
+use Rattle.external.specs.External.{Reported, reported, report_processed}
 use Rattle.external.proofs.CallLaws.{exceeds, admits}
 
 -- ---- the code of a Modbus error
@@ -36,36 +31,30 @@ pub kind_other : (k : ErrorKind) → ¬ (k ≡ IllegalDataValue) → kind_code k
 kind_other k h =
     pick_no _ _ _ (λ e. h (let p = told_same (stop k) (stop IllegalDataValue) (ap (λ (n : ℕ). (n, 0)) e) in cc))
 
--- what is chosen by a code n, where 0 is none
-module _ {A : Type 0} (n m : ℕ) (e : n ≡ m) (a : A) (f : ℕ → A) where
-  no_code : n ≡ 0 → choose (m ≟ 0) a (f m) ≡ a
-  no_code z = pick_yes _ _ _ (sym e ∙ z)
+-- the number of a code, 0 of none, and whether there is one
+abbrev code_number : Option ℕ → ℕ
+code_number None = 0
+code_number (Some n) = n
 
-  some_code : ¬ (n ≡ 0) → choose (m ≟ 0) a (f m) ≡ f n
-  some_code z = pick_no _ _ _ (λ k. z (e ∙ k)) ∙ ap f (sym e)
+abbrev there : Option ℕ → ℕ
+there None = 0
+there (Some n) = 1
+
+number_coded : (m : ℕ) → code_number (coded m) ≡ m
+number_coded zero = refl
+number_coded (suc m) = refl
+
+-- what is chosen by a code, where 0 is none
+module _ {A : Type 0} (m : ℕ) (a : A) (f : ℕ → A) where
+  no_code : coded m ≡ None → choose (m ≟ 0) a (f m) ≡ a
+  no_code e = pick_yes _ _ _ (sym (number_coded m) ∙ ap code_number e)
+
+  some_code : (n : ℕ) → coded m ≡ Some n → choose (m ≟ 0) a (f m) ≡ f n
+  some_code n e =
+      pick_no _ _ _ (λ (z : m ≡ 0). omega (arith, ap there (sym (ap coded z) ∙ e)))
+      ∙ ap f (sym (number_coded m) ∙ ap code_number e)
 
 -- ---- a Modbus error, where none is set
-
-pub error_stays : (c : ℕ) (s : ModbusFrame) (out : List ℕ) (d : ℕ) → s.error ≡ Code d
-    → error_set s.error c s out ≡ well s out
-error_stays c s out d q = ap (λ (x : ModbusError). error_set x c s out) q
-
--- n is the length to leave, r and l what the bounded response answered and then held
-module _ (c : ℕ) (s : ModbusFrame) (out : List ℕ) (u : s.error ≡ Unset) (n : ℕ) (e : n ≡ len_to_leave s.proto)
-    (r : SizeAnswer) (l : List ℕ)
-    (p : (size_paper r, l) ≡ told_with out (resized out s.response_len n 0)) where
-  set_by : error_set s.error c s out ≡ resized_to c s out (resized out s.response_len n 0)
-  set_by =
-      ap (λ (x : ModbusError). error_set x c s out) u
-      ∙ ap (λ (m : ℕ). resized_to c s out (resized out s.response_len m 0)) (sym e)
-
-  pub error_full : (k : ErrorKind) → r ≡ size.Refused k → error_set s.error c s out ≡ refused k s l
-  error_full k q =
-      let w = refusal_with out l (resized out s.response_len n 0) k (rw q at p) in
-      set_by ∙ ap (resized_to c s out) w.0 ∙ ap (refused k s) (sym w.1)
-
-  pub error_set_law : (m : ℕ) → r ≡ size.Value m → error_set s.error c s out ≡ well (with_error c (grown m s)) l
-  error_set_law m q = set_by ∙ ap (resized_to c s out) (value_with out l (resized out s.response_len n 0) m (rw q at p))
 
 module _ (e : Reported) (s : ModbusFrame) (out : List ℕ) where
   pub unset_exceeds : length out < s.response_len → error_set_if_unset e s out ≡ refused OOB s out
@@ -73,35 +62,23 @@ module _ (e : Reported) (s : ModbusFrame) (out : List ℕ) where
   unset_exceeds h = ap ended (exceeds s out _ h)
 
   -- n is the code of what was reported
-  module _ (h : s.response_len ≤ length out) (n : ℕ) (q : n ≡ report_code e) where
-    pub unset_none : n ≡ 0 → error_set_if_unset e s out ≡ well s out
+  module _ (h : s.response_len ≤ length out) where
+    pub unset_none : coded (report_code e) ≡ None → error_set_if_unset e s out ≡ well s out
     unfolding error_set_if_unset
-    unset_none z = ap ended (admits s out _ h) ∙ no_code n _ q _ (λ m. error_set s.error m s out) z
+    unset_none q = ap ended (admits s out _ h) ∙ no_code (report_code e) _ (λ m. error_set s.error m s out) q
 
-    pub unset_coded : ¬ (n ≡ 0) → error_set_if_unset e s out ≡ error_set s.error n s out
+    pub unset_coded : (n : ℕ) → coded (report_code e) ≡ Some n → error_set_if_unset e s out ≡ error_set s.error n s out
     unfolding error_set_if_unset
-    unset_coded z = ap ended (admits s out _ h) ∙ some_code n _ q _ (λ m. error_set s.error m s out) z
+    unset_coded n q = ap ended (admits s out _ h) ∙ some_code (report_code e) _ (λ m. error_set s.error m s out) n q
 
 -- ---- what the firmware reports
 
-module _ (k : ErrorKind) (s : ModbusFrame) (out : List ℕ) (n : ℕ) (q : n ≡ kind_code k) where
-  pub fail_hands_on : n ≡ 0 → failed_by k s out ≡ refused k s out
-  fail_hands_on z = no_code n _ q _ (λ m. error_set s.error m s out) z
+module _ (k : ErrorKind) (s : ModbusFrame) (out : List ℕ) where
+  pub fail_hands_on : coded (kind_code k) ≡ None → failed_by k s out ≡ refused k s out
+  fail_hands_on q = no_code (kind_code k) _ (λ m. error_set s.error m s out) q
 
-  pub fail_sets : ¬ (n ≡ 0) → failed_by k s out ≡ error_set s.error n s out
-  fail_sets z = some_code n _ q _ (λ m. error_set s.error m s out) z
-
-module _ (s : ModbusFrame) (f : ModbusFunction) (q : s.func ≡ f) where
-  pub read_done_by : read_done_left (ported_of s.func) s ≡ read_done_left (ported_of f) s
-  read_done_by = ap (λ (x : ModbusFunction). read_done_left (ported_of x) s) q
-
-  pub write_done_by : (buf out : List ℕ) → write_done (ported_of s.func) s buf out ≡ write_done (ported_of f) s buf out
-  write_done_by buf out = ap (λ (x : ModbusFunction). write_done (ported_of x) s buf out) q
-
-pub read_done_left_law : (fn : Ported) (s : ModbusFrame) (out : List ℕ) → left_paper (read_done_left fn s) out ≡ read_done fn s out
-read_done_left_law (reads t) s out = refl
-read_done_left_law (one k) s out = refl
-read_done_left_law (many k) s out = refl
+  pub fail_sets : (n : ℕ) → coded (kind_code k) ≡ Some n → failed_by k s out ≡ error_set s.error n s out
+  fail_sets n q = some_code (kind_code k) _ (λ m. error_set s.error m s out) n q
 
 -- d is what is left of a request that was done
 module _ (e : Reported) (d : After) (s : ModbusFrame) (out : List ℕ) where
@@ -114,14 +91,11 @@ module _ (e : Reported) (d : After) (s : ModbusFrame) (out : List ℕ) where
   report_by h f q = ap ended (admits s out _ h) ∙ ap (λ (x : Reported). reported x d s out) q
 
 -- what is left of a request that was done is asked for only where it was
-other_report : (e : Reported) (c d : After) (s : ModbusFrame) (out : List ℕ) → ¬ (e ≡ report.Done)
-    → reported e c s out ≡ reported e d s out
-other_report report.Done c d s out h = absurd (h refl)
-other_report (report.Refused k) c d s out h = refl
-other_report report.IllegalFunction c d s out h = refl
-other_report report.IllegalDataAddress c d s out h = refl
+other_report : (f : Failure) (c d : After) (s : ModbusFrame) (out : List ℕ) → reported (Err f) c s out ≡ reported (Err f) d s out
+other_report (failure.Refused k) c d s out = refl
+other_report failure.IllegalFunction c d s out = refl
+other_report failure.IllegalDataAddress c d s out = refl
 
--- e is any other report
-pub report_other : {x : After} (e : Reported) (c d : After) (s : ModbusFrame) (out : List ℕ) → ¬ (e ≡ report.Done)
-    → s.response_len ≤ length out → x ≡ reported e c s out → x ≡ report_processed e d s out
-report_other e c d s out n h p = p ∙ other_report e c d s out n ∙ sym (report_by e d s out h e refl)
+pub report_other : {x : After} (e : Reported) (c d : After) (s : ModbusFrame) (out : List ℕ) (f : Failure) → e ≡ Err f
+    → s.response_len ≤ length out → x ≡ reported (Err f) c s out → x ≡ report_processed e d s out
+report_other e c d s out f q h p = p ∙ other_report f c d s out ∙ sym (report_by e d s out h (Err f) q)

@@ -5,40 +5,30 @@ use mathlib.Core.List.{List, [], ◌∷◌}
 use Prim.Native.Nat.{ℕ, ◌+◌, ◌≤◌, ◌<◌}
 use native.Mathlib.Omega.{arith}
 use lib.ListN.{length}
+use Rattle.std.specs.Prelude.{IsErrAnd, Result, Ok, Err}
 use Rattle.modbus.specs.Step.{Step, stop, go, ◌≤?◌}
 use Rattle.modbus.specs.Table.{Kind}
-use Rattle.modbus.specs.Paper.{told_with, done_paper, size_paper}
 use Rattle.modbus.specs.declared.ErrorKind.{ErrorKind}
 use Rattle.modbus.specs.declared.ErrorKind.TheVariants.{OOB}
-use Rattle.modbus.specs.declared.DoneAnswer.{DoneAnswer}
-use Rattle.modbus.specs.declared.DoneAnswer.TheVariants as done
-use Rattle.modbus.specs.declared.SizeAnswer.{SizeAnswer}
-use Rattle.modbus.specs.declared.SizeAnswer.TheVariants as size
 use Rattle.modbus.proofs.StepLaws.{pick_yes, pick_no}
-use Rattle.modbus.proofs.PaperLaws.{number_some, value_with, refusal_with}
+use Rattle.modbus.proofs.PaperLaws.{number_some, handed_on}
 use Rattle.response.specs.Bounded.{resized}
 use Rattle.response.proofs.BoundedLaws.{resized_long, resized_full}
-use Rattle.outgoing.specs.Grow.{Response, response, Short, head, grown_paper}
-use Rattle.outgoing.specs.declared.Grown.{Grown}
-use Rattle.outgoing.proofs.GrowLaws.{grew, stopped}
-use Rattle.frame.specs.State.{grown, After, well, refused}
+use Rattle.outgoing.specs.Grow.{Response, Short, head}
+use Rattle.frame.specs.State.{grown, After, refused}
 use Rattle.process.specs.Process.{response_of, data_bytes}
 use Rattle.external.specs.External.{described, read_described, without}
 use Rattle.frame.specs.Changes.{kind_number}
 use Rattle.external.specs.External.{room_sized, roomed, room_told, wanted}
-use Rattle.external.specs.Answers.{room_paper, no_room}
+use Rattle.external.specs.Answers.{room_paper}
 use Rattle.frame.specs.declared.ModbusFrame.{ModbusFrame}
-use Rattle.external.specs.declared.reads.Room.{Room}
-use Rattle.external.specs.declared.ReadLeft.{ReadLeft}
-use Rattle.outgoing.specs.Grow.{growth}
+use Rattle.external.specs.declared.Read.{Read}
 
--- ---- what a call leaves, as the code says it
+-- ---- a refusal that `?` hands on
 
-pub of_room : {x y : Room} (l : List ℕ) → x ≡ y → room_paper x l ≡ room_paper y l
-of_room l e = ap (λ (z : Room). room_paper z l) e
-
-pub of_read : {x y : ReadLeft} (l : List ℕ) → x ≡ y → read_described x l ≡ read_described y l
-of_read l e = ap (λ (z : ReadLeft). read_described z l) e
+pub read_handed : (r : Result Read ErrorKind) (k : ErrorKind) (s : ModbusFrame) (out : List ℕ) → IsErrAnd r (λ e. e ≡ k)
+    → read_described r s out ≡ without (refused k s out)
+read_handed r k s out h = ap (λ (a : Result Read ErrorKind). read_described a s out) (handed_on r h)
 
 -- ---- room for a read's data
 
@@ -49,62 +39,44 @@ module _ (s : ModbusFrame) (out : List ℕ) (bytes : ℕ) where
   abbrev room : After × ℕ
   room = room_sized s (response_of s out) lengthened
 
-  pub room_none : length out < s.response_len + bytes → room ≡ room_paper (no_room OOB s) out
+  pub room_none : length out < s.response_len + bytes → room ≡ room_paper (Err OOB) s out
   room_none h = ap (room_sized s (response_of s out)) (by (s.response_len ≤? length out))
     where
       by : Dec (s.response_len ≤ length out) → lengthened ≡ stop OOB
       by (yes p) = resized_full out _ _ 0 p h
       by (no p) = resized_long out _ _ 0 (omega arith)
 
-  -- r and l are what the bounded response answered and then held
-  module _ (r : SizeAnswer) (l : List ℕ) (p : (size_paper r, l) ≡ told_with out lengthened) where
-    pub room_refused : (k : ErrorKind) → r ≡ size.Refused k → room ≡ room_paper (no_room k s) l
-    room_refused k q =
-        let w = refusal_with out l lengthened k (rw q at p) in
-        ap (room_sized s (response_of s out)) w.0 ∙ ap (room_paper (no_room k s)) (sym w.1)
+-- but for its response, the state stays
+abbrev kept : ModbusFrame → After × ℕ → Type 0
+kept s x = x.0.frame ≡ grown x.0.frame.response_len s
 
-    pub room_made : (n : ℕ) → r ≡ size.Value n → room ≡ (well (grown n s) l, s.response_len)
-    room_made n q = ap (room_sized s (response_of s out)) (value_with out l lengthened n (rw q at p))
+sized_kept : (s : ModbusFrame) (r : Response) (m : Step ErrorKind (ℕ × List ℕ)) → kept s (room_sized s r m)
+sized_kept s r (stop k) = refl
+sized_kept s r (go (n, l)) = refl
 
-regrown : (n : ℕ) (s : ModbusFrame) (r : Response) (m : Step ErrorKind (ℕ × List ℕ))
-    → room_sized s r m ≡ room_sized (grown n s) r m
-regrown n s r (stop k) = refl
-regrown n s r (go (i, l)) = refl
+roomed_kept : (bytes : ℕ) (s : ModbusFrame) (m : Step Short Response) → kept s (roomed bytes s m)
+roomed_kept bytes s (stop x) = refl
+roomed_kept bytes s (go r) = sized_kept s r (resized r.out r.len (r.len + bytes) 0)
 
--- g and l are what the call that adds the response's head left
-module _ (bytes : ℕ) (s : ModbusFrame) (buf out : List ℕ) (g : Grown) (l : List ℕ)
-    (e : grown_paper g l ≡ growth (head s.proto buf s.frame_start bytes (response_of s out))) where
-  abbrev headed : Step Short Response
-  headed = head s.proto buf s.frame_start bytes (response_of s out)
-
-  -- its number, where the answer is known
-  headed_as : (a : DoneAnswer) → g.answer ≡ a → growth headed ≡ ((done_paper a).0, response g.len l)
-  headed_as a q = sym e ∙ ap (λ (x : DoneAnswer). ((done_paper x).0, response g.len l)) q
-
-  pub roomed_not : (k : ErrorKind) → g.answer ≡ done.Refused k
-      → roomed bytes s headed ≡ room_paper (no_room k (grown g.len s)) l
-  roomed_not k q = ap (roomed bytes s) (stopped headed k g.len l (headed_as (done.Refused k) q))
-
-  pub roomed_on : g.answer ≡ done.Done
-      → roomed bytes s headed
-      ≡ room_sized (grown g.len s) (response g.len l) (resized l g.len (g.len + bytes) 0)
-  roomed_on q =
-      ap (roomed bytes s) (grew headed g.len l (headed_as done.Done q))
-      ∙ regrown g.len s (response g.len l) (resized l g.len (g.len + bytes) 0)
-
--- x and l are what the call that makes room left
+-- x, t and l are what the call that makes room answered and left
 module _ (k : Kind) (s : ModbusFrame) (buf out : List ℕ) (bytes : ℕ) (b : bytes ≡ data_bytes k s.count)
-    (x : Room) (l : List ℕ)
-    (e : room_paper x l ≡ roomed bytes s (head s.proto buf s.frame_start bytes (response_of s out))) where
-  wanted_by : wanted k s buf out ≡ room_told k s (room_paper x l)
+    (x : Result ℕ ErrorKind) (t : ModbusFrame) (l : List ℕ)
+    (e : room_paper x t l ≡ roomed bytes s (head s.proto buf s.frame_start bytes (response_of s out))) where
+  wanted_by : wanted k s buf out ≡ room_told k s (room_paper x t l)
   wanted_by =
       ap (λ (n : ℕ). room_told k s (roomed n s (head s.proto buf s.frame_start n (response_of s out)))) (sym b)
       ∙ ap (room_told k s) (sym e)
 
-  pub wanted_not : (j : ErrorKind) → x.answer ≡ done.Refused j → wanted k s buf out ≡ without (refused j x.frame l)
-  wanted_not j q = wanted_by ∙ rw q (pick_no _ _ _ (number_some j))
+  pub wanted_not : (j : ErrorKind) → x ≡ Err j → without (refused j t l) ≡ wanted k s buf out
+  wanted_not j q = sym (wanted_by ∙ rw q (pick_no _ _ _ (number_some j)))
 
-  -- vs are the numbers of what the code answers
-  pub wanted_at : x.answer ≡ done.Done → (vs : List ℕ)
-      → vs ≡ kind_number k ∷ s.reg ∷ s.count ∷ x.at ∷ bytes ∷ [] → wanted k s buf out ≡ described (0, vs) x.frame l
-  wanted_at q vs w = wanted_by ∙ rw (q, w, b) (pick_yes _ _ _ refl)
+  left_kept : t ≡ grown t.response_len s
+  left_kept = rw (← e) at (roomed_kept bytes s (head s.proto buf s.frame_start bytes (response_of s out)))
+
+  -- n is the number of the cells' kind
+  pub wanted_at : (at : ℕ) → x ≡ Ok at → (n : ℕ) → n ≡ kind_number k
+      → described (0, n ∷ t.reg ∷ t.count ∷ at ∷ bytes ∷ []) t l ≡ wanted k s buf out
+  wanted_at at q n w =
+      rw w
+      (ap (λ (u : ModbusFrame). described (0, kind_number k ∷ u.reg ∷ u.count ∷ at ∷ bytes ∷ []) t l) left_kept
+      ∙ sym (wanted_by ∙ rw (q, b) (pick_yes _ _ _ refl)))

@@ -6,18 +6,15 @@ use mathlib.Core.List.{List, [], ◌∷◌}
 use Prim.Native.Nat.{ℕ, ◌+◌, ◌/◌, ◌≤◌, ◌<◌}
 use native.Mathlib.Omega.{arith}
 use lib.ListN.{length}
+use Rattle.std.specs.Prelude.{IsErrAnd, Result, Ok, Err, ⊤}
 use Rattle.modbus.specs.Step.{stop, go, choose}
 use Rattle.modbus.specs.Table.{Kind, bit}
-use Rattle.modbus.specs.Paper.{told, done_paper, size_paper}
+use Rattle.modbus.specs.Paper.{told, done_paper, paper}
 use Rattle.modbus.specs.declared.ErrorKind.{ErrorKind}
 use Rattle.modbus.specs.declared.ErrorKind.TheVariants.{OOB, FrameBroken, IllegalDataValue}
-use Rattle.modbus.specs.declared.DoneAnswer.{DoneAnswer}
-use Rattle.modbus.specs.declared.DoneAnswer.TheVariants as done
-use Rattle.modbus.specs.declared.SizeAnswer.{SizeAnswer}
-use Rattle.modbus.specs.declared.SizeAnswer.TheVariants as size
 use Rattle.modbus.proofs.StepLaws.{pass, fail, follow, halt, bound, needed}
 use Rattle.modbus.proofs.StepLaws.{pick_yes, pick_no, test_refuses, test_passes}
-use Rattle.modbus.proofs.PaperLaws.{told_same, number_some}
+use Rattle.modbus.proofs.PaperLaws.{told_same, number_some, handed_on}
 use Rattle.outgoing.specs.Grow.{largest}
 use Rattle.frame.specs.State.{After, refused, left_paper}
 use Rattle.frame.specs.Parse.{second_word}
@@ -27,15 +24,14 @@ use Rattle.frame.specs.Changes.{kind_number}
 use Rattle.external.specs.External.{error_set}
 use Rattle.external.specs.External.{indexed, value_refused, coil_described, holding_described, data_len, many_described}
 use Rattle.frame.specs.declared.ModbusFrame.{ModbusFrame}
-use Rattle.frame.specs.declared.Left.{Left}
-use Rattle.external.specs.declared.WriteLeft.{WriteLeft}
+use Rattle.external.specs.declared.Write.{Write}
 use Rattle.frame.proofs.ParseLaws.{leave, stay, check_refused, check_done}
-use Rattle.external.specs.External.{value_refused}
 
--- ---- what a call leaves, as the code says it
+-- ---- a refusal that `?` hands on
 
-pub of_write : {x y : WriteLeft} (l : List ℕ) → x ≡ y → write_described x l ≡ write_described y l
-of_write l e = ap (λ (z : WriteLeft). write_described z l) e
+pub write_handed : (r : Result Write ErrorKind) (k : ErrorKind) (s : ModbusFrame) (out : List ℕ) → IsErrAnd r (λ e. e ≡ k)
+    → write_described r s out ≡ without (refused k s out)
+write_handed r k s out h = ap (λ (a : Result Write ErrorKind). write_described a s out) (handed_on r h)
 
 -- ---- the bytes of a write
 
@@ -52,7 +48,7 @@ module _ (buf : List ℕ) (start a e : ℕ) where
   unfolding indexed
   indexed_all h i = pass _ _ _ h ∙ pass _ _ _ i
 
-  pub index_done : (r : DoneAnswer) → done_paper r ≡ told (indexed buf start a e) → r ≡ done.Done
+  pub index_done : (r : Result ⊤ ErrorKind) → done_paper r ≡ told (indexed buf start a e) → r ≡ (Ok tt)
       → start + e ≤ length buf
   unfolding indexed
   index_done r p q =
@@ -60,75 +56,73 @@ module _ (buf : List ℕ) (start a e : ℕ) where
 
 -- ---- a coil's value
 
--- x and l are what the call that sets the error left
-module _ (a : After) (x : Left) (l : List ℕ) (e : left_paper x l ≡ a) where
-  pub illegal_full : (k : ErrorKind) → x.answer ≡ done.Refused k → value_refused a ≡ without (refused k x.frame l)
+-- x, t and l are what the call that sets the error answered and left
+module _ (a : After) (x : Result ⊤ ErrorKind) (t : ModbusFrame) (l : List ℕ) (e : left_paper x t l ≡ a) where
+  pub illegal_full : (k : ErrorKind) → x ≡ Err k → value_refused a ≡ without (refused k t l)
   illegal_full k q = rw (← e, q) (pick_no _ _ _ (number_some k))
 
-  pub illegal_set : x.answer ≡ done.Done → value_refused a ≡ without (refused IllegalDataValue x.frame l)
+  pub illegal_set : x ≡ Ok tt → value_refused a ≡ without (refused IllegalDataValue t l)
   illegal_set q = rw (← e, q) (pick_yes _ _ _ refl)
 
-module _ (s : ModbusFrame) (buf out : List ℕ) (r : DoneAnswer)
+module _ (s : ModbusFrame) (buf out : List ℕ) (r : Result ⊤ ErrorKind)
     (e : done_paper r ≡ told (indexed buf s.frame_start 4 6)) where
-  pub coil_refused : (k : ErrorKind) → r ≡ done.Refused k → coil_described s buf out ≡ without (refused k s out)
+  pub coil_refused : (k : ErrorKind) → r ≡ Err k → coil_described s buf out ≡ without (refused k s out)
   unfolding coil_described
   coil_refused k q = ap described_by (check_refused s out _ _ r e k q)
 
   -- v is the value, and t whether it is value_refused
-  module _ (q : r ≡ done.Done) (v : ℕ) (w : v ≡ second_word s buf) (t : Bool)
+  module _ (q : r ≡ (Ok tt)) (v : ℕ) (w : v ≡ second_word s buf) (t : Bool)
       (p : t ≡ choose (legal? bit v) false true) where
     pub coil_illegal : t ≡ true → coil_described s buf out ≡ value_refused (error_set s.error 3 s out)
     unfolding coil_described
     coil_illegal z =
         ap described_by (check_done s out _ _ r e q) ∙ rw (← w) (pick_no _ _ _ (test_refuses (legal? bit v) t p z))
 
-    -- vs are the numbers of what the code answers
-    pub coil_wanted : t ≡ false → (vs : List ℕ) → vs ≡ 0 ∷ s.reg ∷ 1 ∷ 0 ∷ v / 0xFF00 ∷ []
-        → coil_described s buf out ≡ described (0, vs) s out
+    pub coil_wanted : t ≡ false → coil_described s buf out ≡ described (0, 0 ∷ s.reg ∷ 1 ∷ 0 ∷ v / 0xFF00 ∷ []) s out
     unfolding coil_described
-    coil_wanted z vs x =
-        ap described_by (check_done s out _ _ r e q) ∙ rw (x, ← w) (pick_yes _ _ _ (test_passes (legal? bit v) t p z))
+    coil_wanted z =
+        ap described_by (check_done s out _ _ r e q) ∙ rw (← w) (pick_yes _ _ _ (test_passes (legal? bit v) t p z))
 
 -- ---- the other writes
 
-module _ (s : ModbusFrame) (buf out : List ℕ) (r : DoneAnswer)
+module _ (s : ModbusFrame) (buf out : List ℕ) (r : Result ⊤ ErrorKind)
     (e : done_paper r ≡ told (indexed buf s.frame_start 6 6)) where
-  pub holding_refused : (k : ErrorKind) → r ≡ done.Refused k → holding_described s buf out ≡ without (refused k s out)
+  pub holding_refused : (k : ErrorKind) → r ≡ Err k → holding_described s buf out ≡ without (refused k s out)
   unfolding holding_described
   holding_refused k q = ap described_by (check_refused s out _ _ r e k q)
 
-  pub holding_wanted : r ≡ done.Done → (vs : List ℕ)
-      → vs ≡ 1 ∷ s.reg ∷ 1 ∷ 1 ∷ (s.frame_start + 4) ∷ 2 ∷ [] → holding_described s buf out ≡ described (0, vs) s out
+  pub holding_wanted : r ≡ Ok tt
+      → holding_described s buf out ≡ described (0, 1 ∷ s.reg ∷ 1 ∷ 1 ∷ (s.frame_start + 4) ∷ 2 ∷ []) s out
   unfolding holding_described
-  holding_wanted q vs x = ap described_by (check_done s out _ _ r e q) ∙ rw x
+  holding_wanted q = ap described_by (check_done s out _ _ r e q)
 
-module _ (s : ModbusFrame) (buf : List ℕ) (r : DoneAnswer)
+module _ (s : ModbusFrame) (buf : List ℕ) (r : Result ⊤ ErrorKind)
     (e : done_paper r ≡ told (indexed buf s.frame_start 6 7)) where
-  pub length_refused : (k : ErrorKind) → r ≡ done.Refused k → data_len s buf ≡ stop k
+  pub length_refused : (k : ErrorKind) → r ≡ Err k → data_len s buf ≡ stop k
   unfolding data_len
   length_refused k q = halt _ _ (told_same _ (stop k) (sym e ∙ ap done_paper q))
 
-  pub length_behind : r ≡ done.Done → data_len s buf ≡ data_behind buf s.frame_start
+  pub length_behind : r ≡ (Ok tt) → data_len s buf ≡ data_behind buf s.frame_start
   unfolding data_len
   length_behind q = follow _ _ (told_same _ (go 0) (sym e ∙ ap done_paper q))
 
-module _ (s : ModbusFrame) (buf : List ℕ) (r : SizeAnswer) (e : size_paper r ≡ told (data_len s buf)) where
-  pub many_refused : (k : Kind) (out : List ℕ) (j : ErrorKind) → r ≡ size.Refused j
+module _ (s : ModbusFrame) (buf : List ℕ) (r : Result ℕ ErrorKind) (e : paper r ≡ told (data_len s buf)) where
+  pub many_refused : (k : Kind) (out : List ℕ) (j : ErrorKind) → r ≡ Err j
       → many_described k s buf out ≡ without (refused j s out)
   unfolding many_described
-  many_refused k out j q = ap described_by (leave s out _ _ (told_same _ (stop j) (sym e ∙ ap size_paper q)))
+  many_refused k out j q = ap described_by (leave s out _ _ (told_same _ (stop j) (sym e ∙ ap paper q)))
 
-  module _ (n : ℕ) (q : r ≡ size.Value n) where
+  module _ (n : ℕ) (q : r ≡ Ok n) where
     many_on : data_len s buf ≡ go n
-    many_on = told_same _ (go n) (sym e ∙ ap size_paper q)
+    many_on = told_same _ (go n) (sym e ∙ ap paper q)
 
     -- the place of the data lies within the frame
     pub many_within : s.frame_start + 7 ≤ length buf
     unfolding data_len
     many_within = bound _ _ many_on λ a p p₁. needed _ _ _ p₁ λ h p₂. omega arith
 
-    pub many_wanted : (k : Kind) (out vs : List ℕ)
-        → vs ≡ kind_number k ∷ s.reg ∷ s.count ∷ 1 ∷ (s.frame_start + 7) ∷ n ∷ []
-        → many_described k s buf out ≡ described (0, vs) s out
+    -- m is the number of the cells' kind
+    pub many_wanted : (k : Kind) (out : List ℕ) (m : ℕ) → m ≡ kind_number k
+        → many_described k s buf out ≡ described (0, m ∷ s.reg ∷ s.count ∷ 1 ∷ (s.frame_start + 7) ∷ n ∷ []) s out
     unfolding many_described
-    many_wanted k out vs x = ap described_by (stay s out _ _ many_on) ∙ rw x
+    many_wanted k out m x = rw x (ap described_by (stay s out _ _ many_on))

@@ -1,40 +1,16 @@
--- What these calls leave, in the words of the code, for the contracts of private functions.
+-- What these calls answer, in the words of the code, for the contracts of private functions.
 -- Assumes nothing.
-use Rattle.std.specs.Prelude.{List, ℕ}
-use Rattle.modbus.specs.Ported.{Ported, reads, one, many}
-use Rattle.modbus.specs.Paper.{done_paper}
+use Rattle.std.specs.Prelude.{List, ℕ, zero, suc, Option, Some, None, Result}
+use Rattle.modbus.specs.Paper.{paper}
 use Rattle.modbus.specs.declared.ErrorKind.{ErrorKind}
-use Rattle.modbus.specs.declared.ErrorKind.TheVariants.{WriteCallOnReadFrame}
-use Rattle.modbus.specs.declared.DoneAnswer.TheVariants.{Refused}
-use Rattle.frame.specs.State.{After, after, done_of, refused_of}
+use Rattle.frame.specs.State.{After, after}
 use Rattle.frame.specs.declared.ModbusFrame.{ModbusFrame}
-use Rattle.frame.specs.declared.Left.{Left}
-use Rattle.external.specs.declared.WriteAnswer.{WriteAnswer}
-use Rattle.external.specs.declared.ReadAnswer.TheVariants as reading
-use Rattle.external.specs.declared.WriteAnswer.TheVariants as writes
-use Rattle.external.specs.declared.ReadLeft.{ReadLeft}
-use Rattle.external.specs.declared.WriteLeft.{WriteLeft}
-use Rattle.external.specs.declared.reads.Room.{Room}
 
--- an answer, with the state afterwards
-abbrev pub write_left : WriteAnswer → ModbusFrame → WriteLeft
-write_left a s = record { answer = a; frame = s }
-
-abbrev pub read_refused : ErrorKind → ModbusFrame → ReadLeft
-read_refused k s = record { answer = reading.Refused k; frame = s }
-
-abbrev pub write_refused : ErrorKind → ModbusFrame → WriteLeft
-write_refused k s = write_left (writes.Refused k) s
-
--- a read that was processed without an error
-abbrev pub read_done_left : Ported → ModbusFrame → Left
-read_done_left (reads t) s = done_of s
-read_done_left (one k) s = refused_of WriteCallOnReadFrame s
-read_done_left (many k) s = refused_of WriteCallOnReadFrame s
+-- a code, where 0 is none
+abbrev pub coded : ℕ → Option ℕ
+coded zero = None
+coded (suc n) = Some (suc n)
 
 -- room for the data of a read, or none
-abbrev pub room_paper : Room → List ℕ → After × ℕ
-room_paper r l = (after (done_paper r.answer).0 r.frame l, r.at)
-
-abbrev pub no_room : ErrorKind → ModbusFrame → Room
-no_room k s = record { answer = Refused k; at = 0; frame = s }
+abbrev pub room_paper : Result ℕ ErrorKind → ModbusFrame → List ℕ → After × ℕ
+room_paper r s l = (after (paper r).0 s l, (paper r).1)

@@ -1,7 +1,7 @@
 -- The calls by which the firmware carries out a request itself (source 000, `get_external_*`, `process_external_*`,
 -- `set_modbus_error_if_unset`). A request's data stand at a place in the frame, a read's in the response.
 -- Assumes nothing.
-use Rattle.std.specs.Prelude.{List, [], ◌∷◌, ℕ, ◌+◌, length}
+use Rattle.std.specs.Prelude.{List, [], ◌∷◌, ℕ, ◌+◌, length, Option, Some, None, Result, Ok, Err, ⊤}
 use Rattle.modbus.specs.Step.{Step, stop, go, ◌>>=◌, ◌>>◌, need, choose, ◌≤?◌, ◌≟◌}
 use Rattle.modbus.specs.Table.{Kind, bit, word, kind_of}
 use Rattle.modbus.specs.Ported.{Ported, reads, one, many}
@@ -16,23 +16,15 @@ use Rattle.frame.specs.State.{ported_of, grown, with_error, After, after, well, 
 use Rattle.frame.specs.Changes.{kind_number}
 use Rattle.frame.specs.Parse.{or_leave, second_word}
 use Rattle.process.specs.Process.{response_of, data_bytes, write_echoed, legal?, value_of, data_behind}
-use Rattle.frame.specs.declared.ModbusError.{ModbusError}
-use Rattle.frame.specs.declared.ModbusError.TheVariants.{Unset, Code}
 use Rattle.frame.specs.declared.ModbusFrame.{ModbusFrame}
-use Rattle.external.specs.declared.Reported.{Reported}
-use Rattle.external.specs.declared.Reported.TheVariants as report
+use Rattle.external.specs.declared.Failure.{Failure}
+use Rattle.external.specs.declared.Failure.TheVariants as failure
 use Rattle.external.specs.declared.Data.{Data}
 use Rattle.external.specs.declared.Data.TheVariants as place
 use Rattle.external.specs.declared.Write.{Write}
 use Rattle.external.specs.declared.Write.TheVariants as write
 use Rattle.external.specs.declared.Read.{Read}
 use Rattle.external.specs.declared.Read.TheVariants as read
-use Rattle.external.specs.declared.WriteAnswer.{WriteAnswer}
-use Rattle.external.specs.declared.WriteAnswer.TheVariants as writes
-use Rattle.external.specs.declared.ReadAnswer.{ReadAnswer}
-use Rattle.external.specs.declared.ReadAnswer.TheVariants as reading
-use Rattle.external.specs.declared.WriteLeft.{WriteLeft}
-use Rattle.external.specs.declared.ReadLeft.{ReadLeft}
 
 -- ---- answers in numbers
 
@@ -50,13 +42,13 @@ read_paper (read.Bits r) = 0 ∷ r.address ∷ r.count ∷ r.at ∷ r.len ∷ []
 read_paper (read.Words r) = 1 ∷ r.address ∷ r.count ∷ r.at ∷ r.len ∷ []
 
 -- a refusal's number and no values, or 0 and the values
-abbrev pub write_answer_paper : WriteAnswer → ℕ × List ℕ
-write_answer_paper (writes.Value w) = (0, write_paper w)
-write_answer_paper (writes.Refused k) = (number k, [])
+abbrev pub write_answer_paper : Result Write ErrorKind → ℕ × List ℕ
+write_answer_paper (Ok w) = (0, write_paper w)
+write_answer_paper (Err k) = (number k, [])
 
-abbrev pub read_answer_paper : ReadAnswer → ℕ × List ℕ
-read_answer_paper (reading.Value r) = (0, read_paper r)
-read_answer_paper (reading.Refused k) = (number k, [])
+abbrev pub read_answer_paper : Result Read ErrorKind → ℕ × List ℕ
+read_answer_paper (Ok r) = (0, read_paper r)
+read_answer_paper (Err k) = (number k, [])
 
 -- with the state and the lent slice afterwards
 pub record Described : Type 0 where
@@ -66,11 +58,11 @@ pub record Described : Type 0 where
 abbrev pub described : ℕ × List ℕ → ModbusFrame → List ℕ → Described
 described (k, vs) s out = record { left = after k s out; numbers = vs }
 
-abbrev pub read_described : ReadLeft → List ℕ → Described
-read_described r l = described (read_answer_paper r.answer) r.frame l
+abbrev pub read_described : Result Read ErrorKind → ModbusFrame → List ℕ → Described
+read_described r s l = described (read_answer_paper r) s l
 
-abbrev pub write_described : WriteLeft → List ℕ → Described
-write_described r l = described (write_answer_paper r.answer) r.frame l
+abbrev pub write_described : Result Write ErrorKind → ModbusFrame → List ℕ → Described
+write_described r s l = described (write_answer_paper r) s l
 
 abbrev pub without : After → Described
 without a = record { left = a; numbers = [] }
@@ -97,19 +89,23 @@ abbrev pub resized_to : ℕ → ModbusFrame → List ℕ → Step ErrorKind (ℕ
 resized_to c s out (stop k) = refused k s out
 resized_to c s out (go (n, l)) = well (with_error c (grown n s)) l
 
-abbrev pub error_set : ModbusError → ℕ → ModbusFrame → List ℕ → After
-error_set (Code d) c s out = well s out
-error_set Unset c s out = resized_to c s out (resized out s.response_len (len_to_leave s.proto) 0)
+abbrev pub error_set : Option ℕ → ℕ → ModbusFrame → List ℕ → After
+error_set (Some d) c s out = well s out
+error_set None c s out = resized_to c s out (resized out s.response_len (len_to_leave s.proto) 0)
+
+-- what the firmware reports of a request: done, or why not
+abbrev pub Reported : Type 0
+Reported = Result ⊤ Failure
 
 -- the Modbus errors and their codes; 0 for what is none
 abbrev pub kind_code : ErrorKind → ℕ
 kind_code k = choose (number k ≟ number IllegalDataValue) 3 0
 
 abbrev pub report_code : Reported → ℕ
-report_code report.Done = 0
-report_code (report.Refused k) = kind_code k
-report_code report.IllegalFunction = 1
-report_code report.IllegalDataAddress = 2
+report_code (Ok done) = 0
+report_code (Err (failure.Refused k)) = kind_code k
+report_code (Err failure.IllegalFunction) = 1
+report_code (Err failure.IllegalDataAddress) = 2
 
 unfoldable pub error_set_if_unset : Reported → ModbusFrame → List ℕ → After
 error_set_if_unset e s out =
@@ -135,10 +131,10 @@ failed_by k s out = choose (kind_code k ≟ 0) (refused k s out) (error_set s.er
 
 -- what is left of a request that was done is given
 abbrev pub reported : Reported → After → ModbusFrame → List ℕ → After
-reported report.Done done s out = done
-reported (report.Refused k) done s out = failed_by k s out
-reported report.IllegalFunction done s out = error_set s.error 1 s out
-reported report.IllegalDataAddress done s out = error_set s.error 2 s out
+reported (Ok tt) done s out = done
+reported (Err (failure.Refused k)) done s out = failed_by k s out
+reported (Err failure.IllegalFunction) done s out = error_set s.error 1 s out
+reported (Err failure.IllegalDataAddress) done s out = error_set s.error 2 s out
 
 unfoldable pub report_processed : Reported → After → ModbusFrame → List ℕ → After
 report_processed e done s out =

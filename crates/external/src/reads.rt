@@ -1,138 +1,84 @@
 // What the firmware is to read.
-ghost use Rattle.std.specs.Prelude.{◌≡◌, [], ◌∷◌, ◌+◌};
+ghost use Rattle.std.specs.Prelude.{◌≡◌, ◌+◌, List, ℕ};
+ghost use Rattle.modbus.specs.Paper.{kind_in};
 ghost use Rattle.response.specs.Bounded.{resized};
 ghost use Rattle.outgoing.specs.Grow.{head};
-ghost use Rattle.frame.specs.State.{ported_of};
-ghost use Rattle.frame.specs.Changes.{kind_number};
+ghost use Rattle.frame.specs.State.{ported_of, left_paper};
 ghost use Rattle.process.specs.Process.{response_of};
-ghost use Rattle.process.specs.Cells.{kind_in};
-ghost use Rattle.external.specs.External.{read_paper, read_described, room_sized, roomed, wanted};
-ghost use Rattle.external.specs.Answers.{read_refused, read_done_left, no_room, room_paper};
+ghost use Rattle.external.specs.External.{read_described, read_done, room_sized, roomed, wanted};
+ghost use Rattle.external.specs.Answers.{room_paper};
 
-use crate::{Read, ReadAnswer, ReadBits, ReadLeft, ReadWords};
-use frame::{Left, ModbusFrame, ModbusFunction};
-use modbus::{DoneAnswer, ErrorKind, SizeAnswer};
+use crate::{Read, ReadCells};
+use frame::{ModbusFrame, ModbusFunction};
+use modbus::{CellKind, ErrorKind};
 use process::added::add_head;
-use process::cells::{Cells, data_bytes};
+use process::cells::data_bytes;
 
-// Room for a read's data in the response: from a place on, where there is any.
-#[derive(Clone, Copy)]
-pub(crate) struct Room {
-    pub answer: DoneAnswer,
-    pub at: usize,
-    pub frame: ModbusFrame,
-}
-
-pub(crate) fn refuse_read(kind: ErrorKind, frame: ModbusFrame) -> ReadLeft
-    ensures { result ≡ read_refused kind frame }
-{
-    ReadLeft {
-        answer: ReadAnswer::Refused(kind),
-        frame: frame,
-    }
-}
-
-pub(crate) fn want(frame: ModbusFrame, buf: &[u8], of: Cells, response: &mut [u8]) -> ReadLeft
-    ensures { read_described result response.new ≡
-        wanted (kind_in of) frame buf.now response.old }
+pub(crate) fn want(
+    frame: &mut ModbusFrame,
+    buf: &[u8],
+    of: CellKind,
+    response: &mut [u8],
+) -> Result<Read, ErrorKind>
+    ensures { read_described result frame.new response.new ≡
+        wanted (kind_in of) frame.old buf.now response.old }
 {
     let bytes = data_bytes(of, frame.count);
-    let room = make_room(frame, buf, bytes, response);
-    let s = room.frame;
-    let answer = room.answer;
-    match answer {
-        DoneAnswer::Refused(k) => refuse_read(k, s),
-        DoneAnswer::Done => {
-            let read = read_of(of, frame.reg, frame.count, room.at, bytes as usize);
-            ReadLeft {
-                answer: ReadAnswer::Value(read),
-                frame: s,
-            }
-        }
-    }
-}
-
-fn read_of(of: Cells, address: u16, count: u16, at: usize, len: usize) -> Read
-    ensures { read_paper result ≡ kind_number (kind_in of) ∷ address ∷ count ∷ at ∷ len ∷ [] }
-{
+    let at = make_room(frame, buf, bytes, response)?;
+    let cells = ReadCells {
+        address: frame.reg,
+        count: frame.count,
+        at,
+        len: bytes as usize,
+    };
     match of {
-        Cells::Bits => Read::Bits(ReadBits {
-            address,
-            count,
-            at,
-            len,
-        }),
-        Cells::Words => Read::Words(ReadWords {
-            address,
-            count,
-            at,
-            len,
-        }),
+        CellKind::Bits => Ok(Read::Bits(cells)),
+        CellKind::Words => Ok(Read::Words(cells)),
     }
 }
 
-fn make_room(frame: ModbusFrame, buf: &[u8], bytes: u16, response: &mut [u8]) -> Room
-    ensures { room_paper result response.new ≡
-        roomed bytes frame
-        (head frame.proto buf.now frame.frame_start bytes
-        (response_of frame response.old)) }
+// Where the room for a read's data begins, behind the response's head.
+fn make_room(
+    frame: &mut ModbusFrame,
+    buf: &[u8],
+    bytes: u16,
+    response: &mut [u8],
+) -> Result<usize, ErrorKind>
+    ensures { room_paper result frame.new response.new ≡
+        roomed bytes frame.old
+        (head frame.old.proto buf.now frame.old.frame_start bytes
+        (response_of frame.old response.old)) }
 {
-    let h = add_head(frame, buf, bytes, response);
-    let mut s = frame;
-    s.response_len = h.len;
-    let answer = h.answer;
-    match answer {
-        DoneAnswer::Refused(k) => no_room(s, k),
-        DoneAnswer::Done => add_room(s, bytes, response),
-    }
+    add_head(frame, buf, bytes, response)?;
+    add_room(frame, bytes, response)
 }
 
-fn no_room(frame: ModbusFrame, kind: ErrorKind) -> Room
-    ensures { result ≡ no_room kind frame }
-{
-    Room {
-        answer: DoneAnswer::Refused(kind),
-        at: 0,
-        frame: frame,
-    }
-}
-
-fn add_room(frame: ModbusFrame, bytes: u16, response: &mut [u8]) -> Room
-    ensures { room_paper result response.new ≡
-        room_sized frame (response_of frame response.old)
-        (resized response.old frame.response_len (frame.response_len + bytes) 0) }
+fn add_room(frame: &mut ModbusFrame, bytes: u16, response: &mut [u8]) -> Result<usize, ErrorKind>
+    ensures { room_paper result frame.new response.new ≡
+        room_sized frame.old (response_of frame.old response.old)
+        (resized response.old frame.old.response_len (frame.old.response_len + bytes) 0) }
 {
     let at = frame.response_len;
     let n = bytes as usize;
     if usize::MAX - n < at {
-        return no_room(frame, ErrorKind::OOB);
+        return Err(ErrorKind::OOB);
     }
-    match response::resize(response, at, at + n, 0) {
-        SizeAnswer::Refused(k) => no_room(frame, k),
-        SizeAnswer::Value(end) => {
-            let mut s = frame;
-            s.response_len = end;
-            Room {
-                answer: DoneAnswer::Done,
-                at: at,
-                frame: s,
-            }
-        }
-    }
+    frame.response_len = response::resize(response, at, at + n, 0)?;
+    Ok(at)
 }
 
-pub(crate) fn read_done(frame: ModbusFrame) -> Left
-    ensures { result ≡ read_done_left (ported_of frame.func) frame }
+// What is left of a read that was done.
+pub(crate) fn read_done(frame: &ModbusFrame) -> Result<(), ErrorKind>
+    ensures { (out : List ℕ) → left_paper result frame.now out ≡ read_done (ported_of frame.now.func) frame.now out }
 {
-    let f = frame.func;
-    match f {
-        ModbusFunction::GetCoils => frame.done(),
-        ModbusFunction::GetDiscretes => frame.done(),
-        ModbusFunction::GetHoldings => frame.done(),
-        ModbusFunction::GetInputs => frame.done(),
-        ModbusFunction::SetCoil => frame.refused(ErrorKind::WriteCallOnReadFrame),
-        ModbusFunction::SetHolding => frame.refused(ErrorKind::WriteCallOnReadFrame),
-        ModbusFunction::SetCoilsBulk => frame.refused(ErrorKind::WriteCallOnReadFrame),
-        ModbusFunction::SetHoldingsBulk => frame.refused(ErrorKind::WriteCallOnReadFrame),
+    match frame.func {
+        ModbusFunction::GetCoils
+        | ModbusFunction::GetDiscretes
+        | ModbusFunction::GetHoldings
+        | ModbusFunction::GetInputs => Ok(()),
+        ModbusFunction::SetCoil
+        | ModbusFunction::SetHolding
+        | ModbusFunction::SetCoilsBulk
+        | ModbusFunction::SetHoldingsBulk => Err(ErrorKind::WriteCallOnReadFrame),
     }
 }

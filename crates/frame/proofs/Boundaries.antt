@@ -24,8 +24,7 @@ use Rattle.frame.specs.Parse.{or_leave, function_named, addressed, frame_parsed}
 use Rattle.frame.specs.Changes.{changes_by}
 use Rattle.frame.specs.declared.ModbusFunction.{ModbusFunction}
 use Rattle.frame.specs.declared.ModbusFunction.TheVariants.{GetCoils, GetDiscretes, GetHoldings, GetInputs, SetCoil, SetHolding, SetCoilsBulk, SetHoldingsBulk}
-use Rattle.frame.specs.declared.ModbusError.{ModbusError}
-use Rattle.frame.specs.declared.ModbusError.TheVariants.{Unset, Code}
+use Rattle.std.specs.Prelude.{Option, Some, None}
 use Rattle.frame.specs.declared.ModbusFrame.{ModbusFrame}
 
 -- what computing a call opens
@@ -35,9 +34,9 @@ computing = tt
 
 -- ---- a state in numbers, in the order of its fields; 0 where no error is set
 
-abbrev pub error_of : ModbusError → ℕ
-error_of Unset = 0
-error_of (Code c) = c
+abbrev pub error_of : Option ℕ → ℕ
+error_of None = 0
+error_of (Some c) = c
 
 abbrev pub state_numbers : ModbusFrame → List ℕ
 state_numbers s =

@@ -1,6 +1,6 @@
 -- The state of a frame (source 000, `ModbusFrame`), and what a call leaves. The definitions use the code's own types; their numbers stand here.
 -- Assumes nothing.
-use Rattle.std.specs.Prelude.{Bool, true, false, List, ℕ}
+use Rattle.std.specs.Prelude.{Bool, true, false, List, ℕ, Option, Some, None, Result, Ok, Err, ⊤}
 use Rattle.modbus.specs.Step.{Step, stop, go}
 use Rattle.modbus.specs.Table.{coils, discretes, holdings, inputs, bit, word}
 use Rattle.modbus.specs.Ported.{Ported, reads, one, many, code_of, all_ported}
@@ -8,15 +8,10 @@ use Rattle.modbus.specs.Drive.{find}
 use Rattle.modbus.specs.Paper.{number, done_paper}
 use Rattle.modbus.specs.declared.ErrorKind.{ErrorKind}
 use Rattle.modbus.specs.declared.ModbusProto.{ModbusProto}
-use Rattle.modbus.specs.declared.DoneAnswer.TheVariants.{Done, Refused}
 use Rattle.frame.specs.declared.ModbusFunction.{ModbusFunction}
 use Rattle.frame.specs.declared.ModbusFunction.TheVariants.{GetCoils, GetDiscretes, GetHoldings, GetInputs, SetCoil, SetHolding, SetCoilsBulk, SetHoldingsBulk}
-use Rattle.frame.specs.declared.ModbusError.{ModbusError}
-use Rattle.frame.specs.declared.ModbusError.TheVariants.{Unset, Code}
-use Rattle.frame.specs.declared.FunctionAnswer.{FunctionAnswer}
-use Rattle.frame.specs.declared.FunctionAnswer.TheVariants.{Value, Unsupported}
+use Rattle.frame.specs.declared.Unsupported.{Unsupported}
 use Rattle.frame.specs.declared.ModbusFrame.{ModbusFrame}
-use Rattle.frame.specs.declared.Left.{Left}
 
 -- ---- the functions by their names, whose numbers are `code_of`'s
 
@@ -41,9 +36,9 @@ ported_of SetCoilsBulk = many bit
 ported_of SetHoldingsBulk = many word
 
 -- an answer in numbers: 0 and the function's, or the code of an unsupported function
-abbrev pub function_paper : FunctionAnswer → ℕ × ℕ
-function_paper (Value f) = (0, code_of (ported_of f))
-function_paper Unsupported = (1, 0)
+abbrev pub function_paper : Result ModbusFunction Unsupported → ℕ × ℕ
+function_paper (Ok f) = (0, code_of (ported_of f))
+function_paper (Err e) = (1, 0)
 
 abbrev pub function_told : Step ℕ Ported → ℕ × ℕ
 function_told (go fn) = (0, code_of fn)
@@ -55,7 +50,7 @@ function_of n = function_told (find code_of 1 n all_ported)
 
 -- ---- a state by its fields, in the order of the record
 
-abbrev pub state_of : ℕ → ModbusProto → Bool → Bool → ℕ → Bool → ℕ → ModbusFunction → ℕ → ℕ → ModbusError → ℕ → ModbusFrame
+abbrev pub state_of : ℕ → ModbusProto → Bool → Bool → ℕ → Bool → ℕ → ModbusFunction → ℕ → ℕ → Option ℕ → ℕ → ModbusFrame
 state_of unit p processing response function readonly start f first n e len =
     record {
       unit_id = unit;
@@ -74,7 +69,7 @@ state_of unit p processing response function readonly start f first n e len =
 
 -- the state that `new` makes: the response is cleared
 abbrev pub fresh : ℕ → ModbusProto → ModbusFrame
-fresh unit p = state_of unit p false false 0 true 0 GetCoils 0 1 Unset 0
+fresh unit p = state_of unit p false false 0 true 0 GetCoils 0 1 None 0
 
 -- ---- a state with one thing changed
 
@@ -102,7 +97,7 @@ with_func f s =
 abbrev pub with_error : ℕ → ModbusFrame → ModbusFrame
 with_error c s =
     state_of s.unit_id s.proto s.processing_required s.response_required s.responding_to_fn s.readonly
-    s.frame_start s.func s.reg s.count (Code c) s.response_len
+    s.frame_start s.func s.reg s.count (Some c) s.response_len
 
 -- whether a response is required
 abbrev pub answering : Bool → ModbusFrame → ModbusFrame
@@ -137,15 +132,9 @@ well s l = after 0 s l
 abbrev pub refused : ErrorKind → ModbusFrame → List ℕ → After
 refused k s l = after (number k) s l
 
--- as the code says it, with the slice afterwards
-abbrev pub left_paper : Left → List ℕ → After
-left_paper r l = after (done_paper r.answer).0 r.frame l
-
-abbrev pub done_of : ModbusFrame → Left
-done_of s = record { answer = Done; frame = s }
-
-abbrev pub refused_of : ErrorKind → ModbusFrame → Left
-refused_of k s = record { answer = Refused k; frame = s }
+-- as the code says it, with the state and the slice afterwards
+abbrev pub left_paper : Result ⊤ ErrorKind → ModbusFrame → List ℕ → After
+left_paper r s l = after (done_paper r).0 s l
 
 -- a call that ended at a line, or went through
 abbrev pub ended : Step After After → After

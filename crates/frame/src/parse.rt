@@ -1,222 +1,208 @@
 // Module 5: what a frame asks.
-ghost use Rattle.std.specs.Prelude.{true, false, ◌≡◌, List, ℕ, ◌+◌, ◌<◌, ◌≤◌, length};
-ghost use Rattle.modbus.specs.Step.{choose};
-ghost use Rattle.incoming.specs.Envelope.{countable?};
+ghost use Rattle.std.specs.Prelude.{◌≡◌, List, ℕ, ◌+◌, ◌<◌, ◌≤◌, length};
 ghost use Rattle.frame.specs.State.{ported_of, well, left_paper, ended};
 ghost use Rattle.frame.specs.Parse.{Headed, copies_header, unsupported, answered, read_accepted, read_parsed, one_parsed};
 ghost use Rattle.frame.specs.Parse.{many_accepted, many_parsed, requested, function_named, for_us, addressed, frame_parsed};
 
-use crate::{FunctionAnswer, Left, ModbusFrame, ModbusFunction, function_of};
+use crate::{ModbusFrame, ModbusFunction};
 use incoming::{check_frame_crc, frame_start, overflows};
-use modbus::{DoneAnswer, ErrorKind, ModbusProto, SizeAnswer};
+use modbus::{ErrorKind, ModbusProto};
 use octets::{contains, word};
 
 impl ModbusFrame {
     // The header is copied to the response before later faults.
-    pub fn parse(self, buf: &[u8], list: &[u8], response: &mut [u8]) -> Left
-        ensures { left_paper result response.new ≡ frame_parsed self buf.now list.now response.old }
+    pub fn parse(&mut self, buf: &[u8], list: &[u8], response: &mut [u8]) -> Result<(), ErrorKind>
+        ensures { left_paper result self.new response.new ≡ frame_parsed self.old buf.now list.now response.old }
     {
         if response.len() < self.response_len {
-            return self.refused(ErrorKind::OOB);
+            return Err(ErrorKind::OOB);
         }
-        let proto = self.proto;
-        match frame_start(proto, self.frame_start, buf) {
-            SizeAnswer::Refused(k) => self.refused(k),
-            SizeAnswer::Value(n) => {
-                let mut s = self;
-                s.frame_start = n;
-                s.address(buf, list, response)
-            }
-        }
+        self.frame_start = frame_start(self.proto, self.frame_start, buf)?;
+        self.address(buf, list, response)
     }
 
-    fn address(self, buf: &[u8], list: &[u8], response: &mut [u8]) -> Left
-        requires { Headed self.proto buf.now × (self.response_len ≤ length response.old) }
-        ensures { left_paper result response.new ≡ addressed self buf.now list.now response.old }
+    fn address(&mut self, buf: &[u8], list: &[u8], response: &mut [u8]) -> Result<(), ErrorKind>
+        requires { Headed self.old.proto buf.now × (self.old.response_len ≤ length response.old) }
+        ensures { left_paper result self.new response.new ≡ addressed self.old buf.now list.now response.old }
     {
-        let start = self.frame_start;
-        if buf.len() <= start {
-            return self.refused(ErrorKind::FrameBroken);
+        if buf.len() <= self.frame_start {
+            return Err(ErrorKind::FrameBroken);
         }
-        let unit = buf[start];
-        if contains(list, unit) {
-            return self.for_us(true, buf, response);
+        let unit = buf[self.frame_start];
+        let broadcast = contains(list, unit);
+        if !broadcast && unit != self.unit_id {
+            return Ok(());
         }
-        if unit != self.unit_id {
-            return self.done();
-        }
-        self.for_us(false, buf, response)
+        self.for_us(broadcast, buf, response)
     }
 
-    fn for_us(self, broadcast: bool, buf: &[u8], response: &mut [u8]) -> Left
-        requires { Headed self.proto buf.now × (self.frame_start < length buf.now) × (self.response_len ≤ length response.old) }
-        ensures { left_paper result response.new ≡ ended (for_us broadcast self buf.now response.old) }
+    fn for_us(&mut self, broadcast: bool, buf: &[u8], response: &mut [u8]) -> Result<(), ErrorKind>
+        requires { Headed self.old.proto buf.now × (self.old.frame_start < length buf.now) × (self.old.response_len ≤ length response.old) }
+        ensures { left_paper result self.new response.new ≡ ended (for_us broadcast self.old buf.now response.old) }
     {
-        let proto = self.proto;
-        if !copies_header(broadcast, proto) {
-            return self.name(broadcast, buf);
+        if copies_header(broadcast, self.proto) {
+            self.response_len = response::extend(response, self.response_len, &buf[0..4])?;
         }
-        match response::extend(response, self.response_len, &buf[0..4]) {
-            SizeAnswer::Refused(k) => self.refused(k),
-            SizeAnswer::Value(n) => {
-                let mut s = self;
-                s.response_len = n;
-                s.name(broadcast, buf)
-            }
-        }
+        self.name(broadcast, buf)
     }
 
     // From the function on nothing is added to the response, whatever it holds.
-    fn name(self, broadcast: bool, buf: &[u8]) -> Left
-        requires { self.frame_start < length buf.now }
-        ensures { (out : List ℕ) → left_paper result out ≡ function_named broadcast self buf.now out }
+    fn name(&mut self, broadcast: bool, buf: &[u8]) -> Result<(), ErrorKind>
+        requires { self.old.frame_start < length buf.now }
+        ensures { (out : List ℕ) → left_paper result self.new out ≡ function_named broadcast self.old buf.now out }
     {
         let start = self.frame_start;
         if buf.len() - start < 2 {
-            return self.refused(ErrorKind::FrameBroken);
+            return Err(ErrorKind::FrameBroken);
         }
+        let given = *self;
         let number = buf[start + 1];
-        let mut s = self;
-        s.responding_to_fn = number;
-        match function_of(number) {
-            FunctionAnswer::Unsupported => s.answer_unsupported(broadcast),
-            FunctionAnswer::Value(f) => s.with_func(f).request(f, broadcast, self, buf),
+        self.responding_to_fn = number;
+        match ModbusFunction::try_from(number) {
+            Err(_) => {
+                self.answer_unsupported(broadcast);
+                Ok(())
+            }
+            Ok(f) => {
+                self.func = f;
+                self.request(f, broadcast, given, buf)
+            }
         }
     }
 
-    fn answer_unsupported(self, broadcast: bool) -> Left
-        ensures { (out : List ℕ) → left_paper result out ≡ well (unsupported broadcast self) out }
+    fn answer_unsupported(&mut self, broadcast: bool)
+        ensures { self.new ≡ unsupported broadcast self.old }
     {
         if broadcast {
-            return self.done();
+            return;
         }
-        let mut s = self;
-        s.response_required = true;
-        s.with_error(1).done()
+        self.response_required = true;
+        self.error = Some(1);
     }
 
-    fn request(self, f: ModbusFunction, broadcast: bool, given: ModbusFrame, buf: &[u8]) -> Left
-        requires { self.frame_start < length buf.now }
-        ensures { (out : List ℕ) → left_paper result out ≡ ended (requested (ported_of f) broadcast given self buf.now out) }
+    fn request(
+        &mut self,
+        f: ModbusFunction,
+        broadcast: bool,
+        given: ModbusFrame,
+        buf: &[u8],
+    ) -> Result<(), ErrorKind>
+        requires { self.old.frame_start < length buf.now }
+        ensures { (out : List ℕ) → left_paper result self.new out ≡ ended (requested (ported_of f) broadcast given self.old buf.now out) }
     {
         match f {
-            ModbusFunction::GetCoils => self.request_read(2000, broadcast, buf),
-            ModbusFunction::GetDiscretes => self.request_read(2000, broadcast, buf),
-            ModbusFunction::GetHoldings => self.request_read(125, broadcast, buf),
-            ModbusFunction::GetInputs => self.request_read(125, broadcast, buf),
-            ModbusFunction::SetCoil => self.request_one(broadcast, buf),
-            ModbusFunction::SetHolding => self.request_one(broadcast, buf),
+            ModbusFunction::GetCoils | ModbusFunction::GetDiscretes => {
+                self.request_read(2000, broadcast, buf)
+            }
+            ModbusFunction::GetHoldings | ModbusFunction::GetInputs => {
+                self.request_read(125, broadcast, buf)
+            }
+            ModbusFunction::SetCoil | ModbusFunction::SetHolding => self.request_one(
+                broadcast, buf,
+            ),
             ModbusFunction::SetCoilsBulk => self.request_many(1968, broadcast, given, buf),
             ModbusFunction::SetHoldingsBulk => self.request_many(123, broadcast, given, buf),
         }
     }
 
     // A read of at most `most` cells; on a broadcast number it is ignored.
-    fn request_read(self, most: u16, broadcast: bool, buf: &[u8]) -> Left
-        requires { self.frame_start < length buf.now }
-        ensures { (out : List ℕ) → left_paper result out ≡ ended (read_parsed most broadcast self buf.now out) }
+    fn request_read(&mut self, most: u16, broadcast: bool, buf: &[u8]) -> Result<(), ErrorKind>
+        requires { self.old.frame_start < length buf.now }
+        ensures { (out : List ℕ) → left_paper result self.new out ≡ ended (read_parsed most broadcast self.old buf.now out) }
     {
         if broadcast {
-            return self.done();
+            return Ok(());
         }
         let start = self.frame_start;
         if buf.len() - start < 6 {
-            return self.refused(ErrorKind::FrameBroken);
+            return Err(ErrorKind::FrameBroken);
         }
-        let proto = self.proto;
-        match check_frame_crc(proto, buf, start, 6) {
-            DoneAnswer::Refused(k) => self.refused(k),
-            DoneAnswer::Done => self.accept_read(most, buf),
-        }
+        check_frame_crc(self.proto, buf, start, 6)?;
+        self.accept_read(most, buf);
+        Ok(())
     }
 
     // Count 0 passes; flags that were set before are not reset.
-    fn accept_read(self, most: u16, buf: &[u8]) -> Left
-        requires { self.frame_start + 6 ≤ length buf.now }
-        ensures { (out : List ℕ) → left_paper result out ≡ ended (read_accepted most self buf.now out) }
+    fn accept_read(&mut self, most: u16, buf: &[u8])
+        requires { self.old.frame_start + 6 ≤ length buf.now }
+        ensures { (out : List ℕ) → well self.new out ≡ ended (read_accepted most self.old buf.now out) }
     {
         let start = self.frame_start;
-        let mut s = self;
-        s.response_required = true;
-        s.count = word(buf, start + 4);
-        if most < s.count {
-            return s.with_error(3).done();
+        self.response_required = true;
+        self.count = word(buf, start + 4);
+        if most < self.count {
+            self.error = Some(3);
+            return;
         }
-        s.processing_required = true;
-        s.reg = word(buf, start + 2);
-        s.done()
+        self.processing_required = true;
+        self.reg = word(buf, start + 2);
     }
 
     // A response is required, unless the request is a broadcast.
-    fn answer(self, broadcast: bool) -> ModbusFrame
-        ensures { result ≡ answered broadcast self }
+    fn answer(&mut self, broadcast: bool)
+        ensures { self.new ≡ answered broadcast self.old }
     {
-        if broadcast {
-            return self;
+        if !broadcast {
+            self.response_required = true;
         }
-        let mut s = self;
-        s.response_required = true;
-        s
     }
 
-    fn request_one(self, broadcast: bool, buf: &[u8]) -> Left
-        requires { self.frame_start < length buf.now }
-        ensures { (out : List ℕ) → left_paper result out ≡ ended (one_parsed broadcast self buf.now out) }
+    fn request_one(&mut self, broadcast: bool, buf: &[u8]) -> Result<(), ErrorKind>
+        requires { self.old.frame_start < length buf.now }
+        ensures { (out : List ℕ) → left_paper result self.new out ≡ ended (one_parsed broadcast self.old buf.now out) }
     {
         let start = self.frame_start;
         if buf.len() - start < 4 {
-            return self.refused(ErrorKind::FrameBroken);
+            return Err(ErrorKind::FrameBroken);
         }
-        let proto = self.proto;
-        match check_frame_crc(proto, buf, start, 6) {
-            DoneAnswer::Refused(k) => self.refused(k),
-            DoneAnswer::Done => {
-                let mut s = self.answer(broadcast);
-                s.count = 1;
-                s.processing_required = true;
-                s.readonly = false;
-                s.reg = word(buf, start + 2);
-                s.done()
-            }
-        }
+        check_frame_crc(self.proto, buf, start, 6)?;
+        self.answer(broadcast);
+        self.count = 1;
+        self.processing_required = true;
+        self.readonly = false;
+        self.reg = word(buf, start + 2);
+        Ok(())
     }
 
-    fn request_many(self, most: u16, broadcast: bool, given: ModbusFrame, buf: &[u8]) -> Left
-        requires { self.frame_start < length buf.now }
-        ensures { (out : List ℕ) → left_paper result out ≡ ended (many_parsed most broadcast given self buf.now out) }
+    // Where the crate would overflow, the state is left as it was given.
+    fn request_many(
+        &mut self,
+        most: u16,
+        broadcast: bool,
+        given: ModbusFrame,
+        buf: &[u8],
+    ) -> Result<(), ErrorKind>
+        requires { self.old.frame_start < length buf.now }
+        ensures { (out : List ℕ) → left_paper result self.new out ≡ ended (many_parsed most broadcast given self.old buf.now out) }
     {
         let start = self.frame_start;
         if buf.len() - start < 7 {
-            return self.refused(ErrorKind::FrameBroken);
+            return Err(ErrorKind::FrameBroken);
         }
         let len = 7 + buf[start + 6] as usize;
-        let proto = self.proto;
-        if overflows(proto, len) {
-            return given.refused(ErrorKind::FrameBroken);
+        if overflows(self.proto, len) {
+            *self = given;
+            return Err(ErrorKind::FrameBroken);
         }
-        match check_frame_crc(proto, buf, start, len) {
-            DoneAnswer::Refused(k) => self.refused(k),
-            DoneAnswer::Done => self.accept_many(most, broadcast, buf),
-        }
+        check_frame_crc(self.proto, buf, start, len)?;
+        self.accept_many(most, broadcast, buf);
+        Ok(())
     }
 
-    fn accept_many(self, most: u16, broadcast: bool, buf: &[u8]) -> Left
-        requires { self.frame_start + 7 ≤ length buf.now }
-        ensures { (out : List ℕ) → left_paper result out ≡ ended (many_accepted most broadcast self buf.now out) }
+    fn accept_many(&mut self, most: u16, broadcast: bool, buf: &[u8])
+        requires { self.old.frame_start + 7 ≤ length buf.now }
+        ensures { (out : List ℕ) → well self.new out ≡ ended (many_accepted most broadcast self.old buf.now out) }
     {
         let start = self.frame_start;
-        let mut s = self.answer(broadcast);
-        s.count = word(buf, start + 4);
-        if most < s.count {
-            return s.with_error(3).done();
+        self.answer(broadcast);
+        self.count = word(buf, start + 4);
+        if most < self.count || 246 < buf[start + 6] {
+            self.error = Some(3);
+            return;
         }
-        if 246 < buf[start + 6] {
-            return s.with_error(3).done();
-        }
-        s.processing_required = true;
-        s.readonly = false;
-        s.reg = word(buf, start + 2);
-        s.done()
+        self.processing_required = true;
+        self.readonly = false;
+        self.reg = word(buf, start + 2);
     }
 }
 
@@ -224,12 +210,5 @@ impl ModbusFrame {
 fn copies_header(broadcast: bool, proto: ModbusProto) -> bool
     ensures { result ≡ copies_header broadcast proto }
 {
-    if broadcast {
-        return false;
-    }
-    match proto {
-        ModbusProto::Rtu => false,
-        ModbusProto::Ascii => false,
-        ModbusProto::TcpUdp => true,
-    }
+    !broadcast && proto == ModbusProto::TcpUdp
 }

@@ -10,16 +10,15 @@ use lib.Dec.{ltb}
 use lib.ListN.{length, get_or, take, drop, length-drop, length-append}
 use lib.Seq.{take-suc, take-length, drop-append_seam, get_or-take, get_or-drop}
 use borrow.Author.Tests.{lt-ltb, le-ltb}
+use Rattle.std.specs.Prelude.{Result, Ok, Err}
 use Rattle.modbus.specs.Step.{stop, go, choose, ◌≤?◌}
 use Rattle.modbus.specs.Bytes.{word_at}
 use Rattle.modbus.specs.Check.{crc, lrc}
-use Rattle.modbus.specs.Paper.{told, byte_paper}
+use Rattle.modbus.specs.Paper.{told, paper}
 use Rattle.modbus.specs.declared.ErrorKind.{ErrorKind}
 use Rattle.modbus.specs.declared.ErrorKind.TheVariants.{FrameBroken, FrameCRCError}
 use Rattle.modbus.specs.declared.ModbusProto.{ModbusProto}
 use Rattle.modbus.specs.declared.ModbusProto.TheVariants.{Rtu, Ascii, TcpUdp}
-use Rattle.modbus.specs.declared.ByteAnswer.{ByteAnswer}
-use Rattle.modbus.specs.declared.ByteAnswer.TheVariants as byte
 use Rattle.modbus.proofs.StepLaws.{pass, fail, needed, needed_stop, either}
 use Rattle.modbus.proofs.PaperLaws.{byte_value, byte_refusal}
 use Rattle.checks.specs.Within.{lrc_within}
@@ -107,15 +106,15 @@ module _ (buf : List ℕ) (start n : ℕ) where
   rtu_checked x e = rw e
 
   -- r is what the code answered for the LRC
-  module _ (r : ByteAnswer) (e : byte_paper r ≡ told (lrc_within buf n)) where
-    pub ascii_checked : (v : ℕ) → r ≡ byte.Value v → check_follows Ascii buf start n ≡ follows buf (start + n) (v ∷ [])
+  module _ (r : Result ℕ ErrorKind) (e : paper r ≡ told (lrc_within buf n)) where
+    pub ascii_checked : (v : ℕ) → r ≡ Ok v → check_follows Ascii buf start n ≡ follows buf (start + n) (v ∷ [])
     unfolding check_follows
     ascii_checked v q =
         needed _ _ _ (byte_value r (lrc_within buf n) v e q) λ h p.
         let z : lrc (take n buf) ≡ v = cc in
         rw z
 
-    pub ascii_short : (k : ErrorKind) → r ≡ byte.Refused k → check_follows Ascii buf start n ≡ stop k
+    pub ascii_short : (k : ErrorKind) → r ≡ Err k → check_follows Ascii buf start n ≡ stop k
     unfolding check_follows
     ascii_short k q =
         needed_stop _ _ _ (byte_refusal r (lrc_within buf n) k e q)

@@ -1,7 +1,7 @@
 -- Each contract leaves one possible result.
 -- Assumes nothing.
 use mathlib.Core.Path.{refl, sym, ◌∙◌}
-use Rattle.modbus.proofs.Unique.{Unique, size_paper_law, done_paper_law}
+use Rattle.modbus.proofs.Unique.{Unique, paper_law, done_paper_law}
 use Rattle.incoming.proofs.frame_start.Kinds as frame-start-kinds
 use Rattle.incoming.proofs.frame_start.Reads as frame-start-reads
 use Rattle.incoming.proofs.overflows.Kinds as overflows-kinds
@@ -10,7 +10,7 @@ use Rattle.incoming.proofs.check_frame_crc.Kinds as check-frame-crc-kinds
 use Rattle.incoming.proofs.check_frame_crc.Reads as check-frame-crc-reads
 
 pub frame_start : Unique 1 frame-start-kinds.ps frame-start-kinds.r frame-start-reads.Post
-frame_start κs a x y u v p q = (size_paper_law x y (p ∙ sym q), refl)
+frame_start κs a x y u v p q = (paper_law x y (p ∙ sym q), refl)
 
 pub overflows : Unique 0 overflows-kinds.ps overflows-kinds.r overflows-reads.Post
 overflows κs a x y u v p q = (p ∙ sym q, refl)

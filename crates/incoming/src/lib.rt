@@ -3,42 +3,42 @@
 
 ghost use Rattle.std.specs.Prelude.{true, false, ◌≡◌, ◌+◌};
 ghost use Rattle.modbus.specs.Step.{choose};
-ghost use Rattle.modbus.specs.Paper.{told, size_paper, done_paper};
+ghost use Rattle.modbus.specs.Paper.{told, paper, done_paper};
 ghost use Rattle.modbus.specs.declared.ModbusProto.TheVariants as proto;
 ghost use Rattle.incoming.specs.Envelope.{begins, follows, check_follows, Countable, countable?, frame_checked};
 
 use checks::{calc_crc16, calc_lrc};
-use modbus::{ByteAnswer, DoneAnswer, ErrorKind, ModbusProto, SizeAnswer};
+use modbus::{ErrorKind, ModbusProto};
 use octets::word;
 
 // Where the unit stands in a frame.
-pub fn frame_start(proto: ModbusProto, start: usize, buf: &[u8]) -> SizeAnswer
-    ensures { size_paper result ≡ told (begins proto start buf.now) }
+pub fn frame_start(proto: ModbusProto, start: usize, buf: &[u8]) -> Result<usize, ErrorKind>
+    ensures { paper result ≡ told (begins proto start buf.now) }
 {
     match proto {
-        ModbusProto::Rtu => SizeAnswer::Value(start),
-        ModbusProto::Ascii => SizeAnswer::Value(start),
+        ModbusProto::Rtu => Ok(start),
+        ModbusProto::Ascii => Ok(start),
         ModbusProto::TcpUdp => after_header(buf),
     }
 }
 
-fn after_header(buf: &[u8]) -> SizeAnswer
-    ensures { size_paper result ≡ told (begins proto.TcpUdp 0 buf.now) }
+fn after_header(buf: &[u8]) -> Result<usize, ErrorKind>
+    ensures { paper result ≡ told (begins proto.TcpUdp 0 buf.now) }
 {
     if buf.len() < 6 {
-        return SizeAnswer::Refused(ErrorKind::FrameBroken);
+        return Err(ErrorKind::FrameBroken);
     }
     if word(buf, 2) != 0 {
-        return SizeAnswer::Refused(ErrorKind::FrameBroken);
+        return Err(ErrorKind::FrameBroken);
     }
     let length = word(buf, 4);
     if length < 6 {
-        return SizeAnswer::Refused(ErrorKind::FrameBroken);
+        return Err(ErrorKind::FrameBroken);
     }
     if length > 250 {
-        return SizeAnswer::Refused(ErrorKind::FrameBroken);
+        return Err(ErrorKind::FrameBroken);
     }
-    SizeAnswer::Value(6)
+    Ok(6)
 }
 
 // Whether the crate, which counts the bytes of a serial frame's check in a byte, overflows at so many.
@@ -53,16 +53,16 @@ pub fn overflows(proto: ModbusProto, len: usize) -> bool
 }
 
 // The macro of the crate's parse: whether the check of a frame of `len` bytes is right. More than it can count are FrameBroken.
-pub fn check_frame_crc(proto: ModbusProto, buf: &[u8], start: usize, len: usize) -> DoneAnswer
+pub fn check_frame_crc(proto: ModbusProto, buf: &[u8], start: usize, len: usize) -> Result<(), ErrorKind>
     ensures { done_paper result ≡ told (frame_checked proto buf.now start len) }
 {
     if overflows(proto, len) {
-        return DoneAnswer::Refused(ErrorKind::FrameBroken);
+        return Err(ErrorKind::FrameBroken);
     }
     check_counted(proto, buf, start, len)
 }
 
-fn check_counted(proto: ModbusProto, buf: &[u8], start: usize, len: usize) -> DoneAnswer
+fn check_counted(proto: ModbusProto, buf: &[u8], start: usize, len: usize) -> Result<(), ErrorKind>
     requires { Countable proto len }
     ensures { done_paper result ≡ told (check_follows proto buf.now start len) }
 {
@@ -73,34 +73,34 @@ fn check_counted(proto: ModbusProto, buf: &[u8], start: usize, len: usize) -> Do
             follows(buf, start, len, &check)
         }
         ModbusProto::Ascii => match calc_lrc(buf, len as u8) {
-            ByteAnswer::Refused(k) => DoneAnswer::Refused(k),
-            ByteAnswer::Value(lrc) => {
+            Err(k) => Err(k),
+            Ok(lrc) => {
                 let check = [lrc];
                 follows(buf, start, len, &check)
             }
         },
-        ModbusProto::TcpUdp => DoneAnswer::Done,
+        ModbusProto::TcpUdp => Ok(()),
     }
 }
 
 // Whether these bytes stand in the frame, `len` bytes after the start.
-fn follows(buf: &[u8], start: usize, len: usize, check: &[u8]) -> DoneAnswer
+fn follows(buf: &[u8], start: usize, len: usize, check: &[u8]) -> Result<(), ErrorKind>
     ensures { done_paper result ≡ told (follows buf.now (start + len) check.now) }
 {
     if buf.len() < start {
-        return DoneAnswer::Refused(ErrorKind::FrameBroken);
+        return Err(ErrorKind::FrameBroken);
     }
     if buf.len() - start < len {
-        return DoneAnswer::Refused(ErrorKind::FrameBroken);
+        return Err(ErrorKind::FrameBroken);
     }
     let at = start + len;
     if buf.len() - at < check.len() {
-        return DoneAnswer::Refused(ErrorKind::FrameBroken);
+        return Err(ErrorKind::FrameBroken);
     }
     for i in 0..check.len() {
         if buf[at + i] != check[i] {
-            return DoneAnswer::Refused(ErrorKind::FrameCRCError);
+            return Err(ErrorKind::FrameCRCError);
         }
     }
-    DoneAnswer::Done
+    Ok(())
 }

@@ -3,7 +3,7 @@
 
 ghost use Rattle.std.specs.Prelude.{◌≡◌, List, ℕ, ◌≤◌, length, get_or, take};
 ghost use Rattle.modbus.specs.Step.{Step};
-ghost use Rattle.modbus.specs.Paper.{told, byte_paper, size_paper};
+ghost use Rattle.modbus.specs.Paper.{told, paper};
 ghost use Rattle.modbus.specs.Hex.{spelt};
 ghost use Rattle.modbus.specs.Frame.{around};
 ghost use Rattle.modbus.specs.declared.ErrorKind.{ErrorKind};
@@ -12,63 +12,61 @@ ghost use Rattle.lengths.specs.Guess.{Many, guess, guess_under, request_body, re
 ghost use Rattle.lengths.specs.Side.{body_of};
 
 use ascii::parse_text;
-use modbus::{ByteAnswer, ErrorKind, ModbusProto, SizeAnswer};
+use modbus::{ErrorKind, ModbusProto};
 use octets::word;
 
 // What a frame is: requests and responses differ only in how the first bytes tell the length of the body.
 #[derive(Clone, Copy)]
-enum Side {
+pub enum Side {
     Request,
     Response,
 }
 
 // The length of the body of a request of 15 or 16, by its byte count.
-fn many_body(b: &[u8]) -> SizeAnswer
+fn many_body(b: &[u8]) -> Result<usize, ErrorKind>
     requires { Many (get_or b.now 1 0) }
-    ensures { size_paper result ≡ told (request_body b.now) }
+    ensures { paper result ≡ told (request_body b.now) }
 {
     if b.len() < 7 {
-        return SizeAnswer::Refused(ErrorKind::OOB);
+        return Err(ErrorKind::OOB);
     }
-    SizeAnswer::Value(7 + b[6] as usize)
+    Ok(7 + b[6] as usize)
 }
 
 // The length of a request's body; any function but 15 and 16 is guessed as six bytes.
-fn request_body(b: &[u8]) -> SizeAnswer
+#[tactic(auto, using(crate::proofs::GuessLaws::request_other))]
+fn request_body(b: &[u8]) -> Result<usize, ErrorKind>
     requires { 2 ≤ length b.now }
-    ensures { size_paper result ≡ told (request_body b.now) }
+    ensures { paper result ≡ told (request_body b.now) }
 {
     match b[1] {
-        15 => many_body(b),
-        16 => many_body(b),
-        _ => SizeAnswer::Value(6),
+        15 | 16 => many_body(b),
+        _ => Ok(6),
     }
 }
 
 // The length of a response's body; from function 128 on it is an exception.
-fn response_body(b: &[u8]) -> SizeAnswer
+#[tactic(auto, using(crate::proofs::GuessLaws::response_exception, crate::proofs::GuessLaws::response_short, crate::proofs::GuessLaws::response_read, crate::proofs::GuessLaws::response_write, crate::proofs::GuessLaws::response_none))]
+fn response_body(b: &[u8]) -> Result<usize, ErrorKind>
     requires { 2 ≤ length b.now }
-    ensures { size_paper result ≡ told (response_body b.now) }
+    ensures { paper result ≡ told (response_body b.now) }
 {
     if b[1] >= 0x80 {
-        return SizeAnswer::Value(3);
+        return Ok(3);
     }
     if b.len() < 3 {
-        return SizeAnswer::Refused(ErrorKind::OOB);
+        return Err(ErrorKind::OOB);
     }
     match b[1] {
-        1..=4 => SizeAnswer::Value(3 + b[2] as usize),
-        5 => SizeAnswer::Value(6),
-        6 => SizeAnswer::Value(6),
-        15 => SizeAnswer::Value(6),
-        16 => SizeAnswer::Value(6),
-        _ => SizeAnswer::Refused(ErrorKind::FrameBroken),
+        1..=4 => Ok(3 + b[2] as usize),
+        5 | 6 | 15 | 16 => Ok(6),
+        _ => Err(ErrorKind::FrameBroken),
     }
 }
 
-fn body_len(side: Side, b: &[u8]) -> SizeAnswer
+fn body_len(side: Side, b: &[u8]) -> Result<usize, ErrorKind>
     requires { 2 ≤ length b.now }
-    ensures { size_paper result ≡ told (body_of side b.now) }
+    ensures { paper result ≡ told (body_of side b.now) }
 {
     match side {
         Side::Request => request_body(b),
@@ -77,19 +75,17 @@ fn body_len(side: Side, b: &[u8]) -> SizeAnswer
 }
 
 // A length, where a byte holds it.
-fn in_byte(n: usize) -> ByteAnswer
-    ensures { byte_paper result ≡ told (in_byte n) }
+#[tactic(auto, using(crate::proofs::GuessLaws::byte_fits, crate::proofs::GuessLaws::byte_none))]
+fn in_byte(n: usize) -> Result<u8, ErrorKind>
+    ensures { paper result ≡ told (in_byte n) }
 {
-    if n > 255 {
-        return ByteAnswer::Refused(ErrorKind::FrameBroken);
-    }
-    ByteAnswer::Value(n as u8)
+    u8::try_from(n).map_err(|_| ErrorKind::FrameBroken)
 }
 
 // The length of the frame around a body of `n` bytes.
-fn frame_len(n: usize, proto: ModbusProto) -> ByteAnswer
+fn frame_len(n: usize, proto: ModbusProto) -> Result<u8, ErrorKind>
     requires { n ≤ 65535 }
-    ensures { byte_paper result ≡ told (in_byte (around proto n)) }
+    ensures { paper result ≡ told (in_byte (around proto n)) }
 {
     match proto {
         ModbusProto::Rtu => in_byte(n + 2),
@@ -99,51 +95,49 @@ fn frame_len(n: usize, proto: ModbusProto) -> ByteAnswer
 }
 
 // The guess from bytes, of which the first `known` count.
-fn serial_len(side: Side, b: &[u8], known: usize, proto: ModbusProto) -> ByteAnswer
+fn serial_len(side: Side, b: &[u8], known: usize, proto: ModbusProto) -> Result<u8, ErrorKind>
     requires { known ≤ length b.now }
-    ensures { byte_paper result ≡ told (serial (body_of side) proto (take known b.now)) }
+    ensures { paper result ≡ told (serial (body_of side) proto (take known b.now)) }
 {
     if known < 2 {
-        return ByteAnswer::Refused(ErrorKind::OOB);
+        return Err(ErrorKind::OOB);
     }
-    let body = body_len(side, &b[..known]);
-    match body {
-        SizeAnswer::Value(n) => frame_len(n, proto),
-        SizeAnswer::Refused(k) => ByteAnswer::Refused(k),
-    }
+    frame_len(body_len(side, &b[..known])?, proto)
 }
 
 // The guess from a TCP header, which holds the length of any body.
-fn tcp_len(frame: &[u8]) -> ByteAnswer
-    ensures { (body : List ℕ → Step ErrorKind ℕ) → byte_paper result ≡ told (guess body TcpUdp frame.now) }
+fn tcp_len(frame: &[u8]) -> Result<u8, ErrorKind>
+    ensures { (body : List ℕ → Step ErrorKind ℕ) → paper result ≡ told (guess body TcpUdp frame.now) }
 {
     if frame.len() < 6 {
-        return ByteAnswer::Refused(ErrorKind::OOB);
+        return Err(ErrorKind::OOB);
     }
     if word(frame, 2) != 0 {
-        return ByteAnswer::Refused(ErrorKind::FrameBroken);
+        return Err(ErrorKind::FrameBroken);
     }
     frame_len(word(frame, 4) as usize, ModbusProto::TcpUdp)
 }
 
 // The guess from a line's text. Digits a-f are read where `hex` is not 0.
-fn ascii_len(side: Side, text: &[u8], hex: u8) -> ByteAnswer
-    ensures { byte_paper result ≡ told (guess (body_of side) Ascii (spelt hex text.now)) }
+fn ascii_len(side: Side, text: &[u8], hex: u8) -> Result<u8, ErrorKind>
+    ensures { paper result ≡ told (guess (body_of side) Ascii (spelt hex text.now)) }
 {
     let mut buf = [0u8; 256];
-    let parsed = parse_text(text, text.len(), &mut buf, 0, hex);
-    match parsed {
-        ByteAnswer::Value(n) => serial_len(side, &buf, n as usize, ModbusProto::Ascii),
-        ByteAnswer::Refused(k) => ByteAnswer::Refused(k),
-    }
+    let known = parse_text(text, text.len(), &mut buf, 0, hex)?;
+    serial_len(side, &buf, known as usize, ModbusProto::Ascii)
 }
 
 // The guess under a switch: 0 strict, 1 lenient.
-fn guess_frame_len(side: Side, frame: &[u8], proto: ModbusProto, hex: u8) -> ByteAnswer
-    ensures { byte_paper result ≡ told (guess_under hex (body_of side) proto frame.now) }
+pub fn guess_frame_len(
+    side: Side,
+    frame: &[u8],
+    proto: ModbusProto,
+    hex: u8,
+) -> Result<u8, ErrorKind>
+    ensures { paper result ≡ told (guess_under hex (body_of side) proto frame.now) }
 {
     if 1 < hex {
-        return ByteAnswer::Refused(ErrorKind::OOB);
+        return Err(ErrorKind::OOB);
     }
     match proto {
         ModbusProto::Rtu => serial_len(side, frame, frame.len(), ModbusProto::Rtu),
@@ -153,15 +147,15 @@ fn guess_frame_len(side: Side, frame: &[u8], proto: ModbusProto, hex: u8) -> Byt
 }
 
 // How long the request is that these bytes begin.
-pub fn guess_request_frame_len(frame: &[u8], proto: ModbusProto, hex: u8) -> ByteAnswer
-    ensures { byte_paper result ≡ told (guess_under hex request_body proto frame.now) }
+pub fn guess_request_frame_len(frame: &[u8], proto: ModbusProto, hex: u8) -> Result<u8, ErrorKind>
+    ensures { paper result ≡ told (guess_under hex request_body proto frame.now) }
 {
     guess_frame_len(Side::Request, frame, proto, hex)
 }
 
 // How long the response is that these bytes begin.
-pub fn guess_response_frame_len(buf: &[u8], proto: ModbusProto, hex: u8) -> ByteAnswer
-    ensures { byte_paper result ≡ told (guess_under hex response_body proto buf.now) }
+pub fn guess_response_frame_len(buf: &[u8], proto: ModbusProto, hex: u8) -> Result<u8, ErrorKind>
+    ensures { paper result ≡ told (guess_under hex response_body proto buf.now) }
 {
     guess_frame_len(Side::Response, buf, proto, hex)
 }

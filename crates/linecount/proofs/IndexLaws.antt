@@ -1,7 +1,9 @@
 -- One start of a record by its sums: the shortest frame there, and what is counted from there on.
 -- Assumes nothing.
 use mathlib.Core.Logic.{by_cases}
-use Rattle.std.proofs.Common.{◌≡◌, ℕ, suc, ◌+◌, ◌-◌, ◌*◌, ◌/◌, ◌%◌, ◌<◌, ◌≤◌, List, length, get_or, set, sym, ap, ◌∙◌, ap₂, arith, drop_of_length-le, get_or-set_other, get_or-set_same}
+use Rattle.std.proofs.Common.{◌≡◌, ℕ, suc, ◌+◌, ◌-◌, ◌*◌, ◌/◌, ◌%◌, ◌<◌, ◌≤◌, List, length, get_or, set, sym, ap, subst, ◌∙◌, ap₂, arith, drop_of_length-le, get_or-set_other, get_or-set_same}
+use Rattle.std.proofs.Math.ListN.{get_or-map}
+use Rattle.std.proofs.lemmas.List.{map-set, length-map}
 use native.Mathlib.Decide.{ℕ_discrete}
 use lib.Bits.{bit_xor}
 use Rattle.modbus.specs.Bytes.{Bytes}
@@ -13,7 +15,9 @@ use Rattle.logs.specs.Log.{counted, more, counted_in, rest}
 use Rattle.logs.specs.declared.Counted.{Counted}
 use Rattle.logs.proofs.FirstLaws.{NoneAt}
 use Rattle.logs.proofs.CountLaws.{counted_rest, rest_fits}
-use Rattle.linecount.specs.Sums.{tail, opened, power, packed, Sums, Near, Counts, Reaches, reaches?, shortest}
+use Rattle.linecount.specs.Sums.{tail, opened, power, packed, sums, counts, Sums, Near, Counts, Reaches, reaches?, shortest}
+use Rattle.linecount.specs.declared.index.Place.{Place}
+use Rattle.linecount.proofs.TableLaws.{entry_put}
 use Rattle.linecount.proofs.CrcLaws.{stands_iff, tail_step, opened_is}
 use Rattle.linecount.proofs.StartLaws.{shortest_cases, walk_skip, walk_take, rest_end}
 
@@ -34,6 +38,29 @@ sums_step l k z x h j e q =
 -- the sum that the end of a frame must have
 pub opens : (l : List ℕ) (k z x : ℕ) → k ≤ length l → z ≡ tail l (length l - k) → x ≡ shifts (8 * k) 0xFFFF → bit_xor z x ≡ opened l (length l - k)
 opens l k z x h e o = ap₂ bit_xor e o ∙ sym (opened_is l (length l - k) k (omega arith))
+
+-- ---- the places
+
+abbrev empty : Place
+empty = record { sum = 0; counted = 0 }
+
+pub sum_at : (places : List Place) (k : ℕ) → get_or (sums places) k 0 ≡ (get_or places k empty).sum
+sum_at places k = get_or-map (λ (p : Place). p.sum) places k empty
+
+pub counted_at : (places : List Place) (k : ℕ) → get_or (counts places) k 0 ≡ (get_or places k empty).counted
+counted_at places k = get_or-map (λ (p : Place). p.counted) places k empty
+
+-- one place more
+pub place_put : (l : List ℕ) (places : List Place) (k : ℕ) (p : Place) → Sums (sums places) l k → Counts (counts places) l k → k < length places
+    → p.sum ≡ tail l (length l - k) → p.counted ≡ packed (rest l (length l - k))
+    → Sums (sums (set places k p)) l (k + 1) × Counts (counts (set places k p)) l (k + 1)
+place_put l places k p s c h e f =
+    let u = length-map places (λ (q : Place). q.sum) in
+    let v = length-map places (λ (q : Place). q.counted) in (
+      subst (λ m. Sums m l (k + 1)) (sym (map-set (λ (q : Place). q.sum) places k p)) (entry_put (λ j. tail l (length l - j)) (sums places) k p.sum s (omega (arith, u, h)) e),
+      subst (λ m. Counts m l (k + 1)) (sym (map-set (λ (q : Place). q.counted) places k p))
+          (entry_put (λ j. packed (rest l (length l - j))) (counts places) k p.counted c (omega (arith, v, h)) f),
+    )
 
 -- ---- the latest place with a sum
 

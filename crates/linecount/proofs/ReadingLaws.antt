@@ -1,69 +1,41 @@
--- A buffer whose rest moves to the front, and what is then left of the log.
+-- What is left of a log that is read in pieces, and a fault, after which nothing matters.
 -- Assumes nothing.
-use Rattle.std.proofs.Common.{◌≡◌, ℕ, zero, suc, ◌+◌, ◌-◌, ◌<◌, ◌≤◌, Bool, true, false, not, List, [], ◌∷◌, ◌++◌, length, get_or, take, drop, set, sym, refl, ap, ◌∙◌, ap₂, true≢false, add-one, arith, length-drop, get_or-drop, take-suc, drop-drop, take-suc-set, drop-set-lt}
-use mathlib.Core.Bool.{false≢true}
-use Rattle.logs.specs.declared.Peek.{Peek}
-use Rattle.logs.specs.declared.Peek.TheVariants.{BadMark, BadRecord, TooLong, More, Whole}
-use Rattle.linecount.specs.Reading.{is_more}
+use Rattle.std.proofs.Common.{◌≡◌, ℕ, ◌+◌, ◌-◌, ◌≤◌, List, length, take, drop, sym, ap, ◌∙◌, arith, Option, Some, Ok, Err, length-drop, length-take-le}
+use lib.Seq.{paste}
+use borrow.Author.Rules.{part_to_end}
+use Rattle.std.proofs.lemmas.List.{drop-take}
+use Rattle.std.proofs.lemmas.List.Edits.{take-paste}
+use Rattle.logs.specs.Log.{report, peeked}
+use Rattle.logs.specs.declared.Fault.{Fault}
+use Rattle.logs.specs.declared.Total.{Total}
+use Rattle.logs.proofs.LogLaws.{whole_is, then_fault, ends_fault}
+use Rattle.logs.proofs.Pieces.{final}
+use Rattle.linecount.specs.Reading.{Continues, Settled}
 
--- one byte more: what is at the front already, and what was not yet touched
-module _ (l m : List ℕ) (u i : ℕ) (front : take i m ≡ take i (drop u l)) (untouched : drop i m ≡ drop i l) (same : length m ≡ length l) (fits : u + i < length l) where
-  next_is : get_or m (u + i) 0 ≡ get_or (drop u l) i 0
-  next_is =
-      let e : u + i ≡ i + u = omega arith in
-      ap (λ n. get_or m n 0) e ∙ sym (get_or-drop i m u 0) ∙ ap (λ x. get_or x u 0) untouched ∙ get_or-drop i l u 0 ∙ ap (λ n. get_or l n 0) (sym e) ∙ sym (get_or-drop u l i 0)
+-- the bytes from u on, of the first h, that were moved to the front
+pub waits : (l m : List ℕ) (u h : ℕ) → u ≤ h → h ≤ length l → m ≡ paste l 0 (drop u l) (h - u) → take (h - u) m ≡ drop u (take h l)
+waits l m u h a b e =
+    let n = h - u in
+    let d = length-drop u l in
+    ap (take n) e ∙ ap (λ k. take k (paste l 0 (drop u l) n)) (let z : n ≡ 0 + n = omega arith in z) ∙ take-paste l 0 (drop u l) n (omega arith) (omega (arith, d))
+    ∙ sym (drop-take u n l) ∙ ap (λ k. drop u (take k l)) (let z : u + n ≡ h = omega arith in z)
 
-  pub moved : take (i + 1) (set m i (get_or m (u + i) 0)) ≡ take (i + 1) (drop u l)
-  moved =
-      let d = length-drop u l in
-      ap (λ n. take n (set m i (get_or m (u + i) 0))) (add-one i) ∙ take-suc-set m i _ (omega arith)
-      ∙ ap₂ (λ x y. x ++ (y ∷ [])) front next_is ∙ sym (take-suc (drop u l) i 0 (omega (arith, d))) ∙ ap (λ n. take n (drop u l)) (sym (add-one i))
+-- a fault behind whole records
+pub fault_settles : (t u : Total) (l m : List ℕ) (f : Fault) → Continues t l u m → peeked u.at m ≡ Err f → Settled t l × (report t l ≡ Err f)
+fault_settles t u l m f same e =
+    let comes : report t l ≡ Err f = sym (then_fault t l u m same f e) in (
+      λ next. same next ∙ final u m next (λ n x. (let y = sym e ∙ x in cc)) (λ x. (let y = sym e ∙ x in cc)) ∙ ends_fault u m f e ∙ sym comes,
+      comes,
+    )
 
-  pub still : drop (i + 1) (set m i (get_or m (u + i) 0)) ≡ drop (i + 1) l
-  still = drop-set-lt (i + 1) m i _ (omega arith) ∙ sym (drop-drop 1 i m) ∙ ap (drop 1) untouched ∙ drop-drop 1 i l
-
-take_nil : (n : ℕ) → ◌≡◌ {A = List ℕ} (take n []) []
-take_nil zero = refl
-take_nil (suc n) = refl
-
--- what is left of the first h bytes
-pub left : (l : List ℕ) (u h : ℕ) → u ≤ h → drop u (take h l) ≡ take (h - u) (drop u l)
-left l zero h k = ap (λ n. take n l) (let z : h ≡ h - 0 = omega arith in z)
-left l (suc u) zero k = absurd (omega (arith, k))
-left [] (suc u) (suc h) k = sym (take_nil (suc h - suc u))
-left (x ∷ l) (suc u) (suc h) k = left l u h (omega arith) ∙ ap (λ n. take n (drop u l)) (let z : h - u ≡ suc h - suc u = omega arith in z)
-
-pub waits : (l m : List ℕ) (u h r : ℕ) → u ≤ h → r ≡ h - u → take (h - u) m ≡ take (h - u) (drop u l) → take r m ≡ drop u (take h l)
-waits l m u h r k e f = ap (λ n. take n m) e ∙ f ∙ sym (left l u h k)
-
-pub not_both : {C : Type 0} (b : Bool) → b ≡ true → b ≡ false → C
-not_both b t f = absurd (true≢false (sym t ∙ f))
-
-pub one_or_other : (b : Bool) → ¬ b ≡ true → b ≡ false
-one_or_other true h = absurd (h refl)
-one_or_other false h = refl
-
-pub was_false : (b : Bool) → not b ≡ true → b ≡ false
-was_false true e = absurd (false≢true e)
-was_false false e = refl
-
-pub was_true : (b : Bool) → not b ≡ false → b ≡ true
-was_true true e = refl
-was_true false e = absurd (true≢false e)
-
-pub not_more : (p : Peek) → is_more p ≡ false → ¬ p ≡ More
-not_more p f e = not_both (is_more p) (ap is_more e) f
-
-pub only_more : (p : Peek) → is_more p ≡ true → p ≡ More
-only_more BadMark e = not_both false e refl
-only_more BadRecord e = not_both false e refl
-only_more TooLong e = not_both false e refl
-only_more More e = refl
-only_more (Whole n) e = not_both false e refl
-
-pub other_than_more : (p : Peek) → ¬ p ≡ More → false ≡ is_more p
-other_than_more BadMark h = refl
-other_than_more BadRecord h = refl
-other_than_more TooLong h = refl
-other_than_more More h = absurd (h refl)
-other_than_more (Whole n) h = refl
+-- what `look` said of a whole record behind the first u bytes
+pub whole_front : (t : Total) (l : List ℕ) (u : ℕ) (p : Option ℕ) (n : ℕ) → u ≤ length l → Ok p ≡ peeked t.at (take (length l - u) (drop u l)) → p ≡ Some n
+    → (peeked t.at (drop u l) ≡ Ok (Some n)) × (u + 4 + n ≤ length l) × (length (take (u + 4 + n - (u + 4)) (drop (u + 4) l)) ≤ 4096)
+    × (t.at + (4 + length (take (u + 4 + n - (u + 4)) (drop (u + 4) l))) ≤ 4294967295)
+whole_front t l u p n h e f =
+    let w = sym (ap (peeked t.at) (part_to_end l u)) ∙ sym e ∙ ap Ok f in
+    let (a, b, c) = whole_is t.at (drop u l) n w in
+    let d = length-drop u l in
+    let k = length-drop (u + 4) l in
+    let s = length-take-le (u + 4 + n - (u + 4)) (drop (u + 4) l) (omega (arith, a, d, k)) in
+    (w, omega (arith, a, d, h), omega (arith, b, s), omega (arith, c, s))

@@ -1,11 +1,12 @@
 -- Sums by which the frames of a record are found, and the tables for them (document 02, 2026-12; the register is SER's, 6.2.2).
 -- Assumes nothing.
-use Rattle.std.specs.Prelude.{◌≡◌, ℕ, ◌+◌, ◌-◌, ◌*◌, ◌/◌, ◌%◌, ◌<◌, ◌≤◌, List, length, drop, slice_index, slice_index_or}
+use Rattle.std.specs.Prelude.{◌≡◌, ℕ, ◌+◌, ◌-◌, ◌*◌, ◌/◌, ◌%◌, ◌<◌, ◌≤◌, List, map, length, drop, slice_index, slice_index_or}
 use Rattle.modbus.specs.Step.{◌≤?◌, ◌≟◌, ◌and?◌}
 use Rattle.modbus.specs.Check.{shifts, crc_from}
 use Rattle.logs.specs.Search.{Seen, none, stood, lengths, longest}
 use Rattle.logs.specs.Log.{rest}
 use Rattle.logs.specs.declared.Counted.{Counted}
+use Rattle.linecount.specs.declared.index.Place.{Place}
 
 -- ---- the shortest frame that begins at s, or 0
 
@@ -46,13 +47,13 @@ Powers l n = Filled (λ j. power (j / 16) (j % 16)) l n
 abbrev pub Openings : List ℕ → ℕ → Type 0
 Openings l n = Filled (λ k. shifts (8 * k) 0xFFFF) l n
 
-abbrev pub Tables : List ℕ → List ℕ → Type 0
-Tables powers openings = (length powers ≡ 131104) × (length openings ≡ 4097) × Powers powers 131104 × Openings openings 4097
-
 -- ---- the work on a record l: entry k is for the place where k bytes are left
 
-abbrev pub Room : List ℕ → List ℕ → List ℕ → Type 0
-Room sums nearest counts = (length sums ≡ 4097) × (length nearest ≡ 65536) × (length counts ≡ 4097)
+abbrev pub sums : List Place → List ℕ
+sums places = map (λ (p : Place). p.sum) places
+
+abbrev pub counts : List Place → List ℕ
+counts places = map (λ (p : Place). p.counted) places
 
 abbrev pub Sums : List ℕ → List ℕ → ℕ → Type 0
 Sums sums l n = Filled (λ k. tail l (length l - k)) sums n

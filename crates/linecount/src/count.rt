@@ -1,110 +1,75 @@
-// The totals over a log, record by record, with the tables of the search and room for its work.
-ghost use Rattle.std.specs.Prelude.{◌≡◌, ℕ, ◌+◌, ◌≤◌, length, drop};
-ghost use Rattle.modbus.specs.Bytes.{Bytes};
-ghost use Rattle.logs.specs.Log.{Sound, advanced, peeked, report};
-ghost use Rattle.logs.specs.declared.Peek.TheVariants as peek;
-ghost use Rattle.linecount.specs.Sums.{Tables, Room};
-ghost use Rattle.linecount.specs.Reading.{Continues};
+// The totals over a log, record by record.
+ghost use Rattle.std.specs.Prelude.{◌≡◌, ◌+◌, ◌≤◌, length, None, Ok, Err, IfOk, IfErr};
+ghost use Rattle.logs.specs.Log.{Sound, start, advanced, peeked, report};
+ghost use Rattle.linecount.specs.Reading.{Continues, left};
 
-use crate::index::count_record;
-use logs::{Peek, Report, Total, look};
+use crate::index::Room;
+use crate::tables::Tables;
+use logs::{Fault, Total, look};
 
-// The whole records at the front of a piece: the totals with them, the bytes that they take, and what stands behind them.
-#[derive(Clone, Copy)]
-pub(crate) struct Part {
+// Counts a log: the tables of the search, room for its work, and the totals up to where the log stands.
+#[derive(Drop)]
+pub(crate) struct Counter<'a> {
+    tables: &'a Tables,
+    room: &'a mut Room,
     pub total: Total,
-    pub used: usize,
-    pub last: Peek,
+    ghost sound: { Sound total },
 }
 
-// One record more.
-fn advance(
-    t: Total,
-    record: &[u8],
-    powers: &[u16],
-    openings: &[u16],
-    sums: &mut [u16],
-    nearest: &mut [u16],
-    counts: &mut [u32],
-) -> Total
-    requires { Sound t × (t.at + (4 + length «record».now) ≤ 4294967295) × (length «record».now ≤ 4096) × Bytes «record».now × Tables powers.now openings.now × Room sums.old nearest.old counts.old }
-    ensures { result ≡ advanced t «record».now }
-{
-    let c = count_record(record, powers, openings, sums, nearest, counts);
-    let n = record.len() as u64;
-    let inside = c.inside as u64;
-    Total {
-        at: t.at + (n + 4),
-        records: t.records + 1,
-        frames: t.frames + c.frames as u64,
-        inside: t.inside + inside,
-        other: t.other + (n - inside),
+impl<'a> Counter<'a> {
+    pub(crate) fn new(tables: &'a Tables, room: &'a mut Room) -> Counter<'a>
+        ensures { result.total ≡ start }
+    {
+        Counter {
+            tables,
+            room,
+            total: Total::default(),
+        }
     }
-}
 
-// Takes the whole records at the front.
-pub(crate) fn count_part(
-    t: Total,
-    log: &[u8],
-    powers: &[u16],
-    openings: &[u16],
-    sums: &mut [u16],
-    nearest: &mut [u16],
-    counts: &mut [u32],
-) -> Part
-    requires { Sound t × Tables powers.now openings.now × Room sums.old nearest.old counts.old }
-    ensures { Continues t log.now result.total (drop result.used log.now) × (result.last ≡ peeked result.total.at (drop result.used log.now)) × ((n : ℕ) → ¬ result.last ≡ peek.Whole n) × (result.used ≤ length log.now) × (result.total.at ≡ t.at + result.used) × Sound result.total }
-{
-    let mut total = t;
-    let mut used = 0;
-    loop {
-        let p = look(total.at, &log[used..]);
-        let Peek::Whole(n) = p else {
-            return Part {
-                total: total,
-                used: used,
-                last: p,
-            };
+    // One record more.
+    #[tactic(auto, unfolding(logs::specs::Log::advanced))]
+    fn advance(&mut self, record: &[u8])
+        requires { (self.old.total.at + (4 + length «record».now) ≤ 4294967295) × (length «record».now ≤ 4096) }
+        ensures { self.new.total ≡ advanced self.old.total «record».now }
+    {
+        let c = self.room.count_record(record, self.tables);
+        let n = record.len() as u64;
+        let inside = c.inside as u64;
+        let t = self.total;
+        self.total = Total {
+            at: t.at + (n + 4),
+            records: t.records + 1,
+            frames: t.frames + c.frames as u64,
+            inside: t.inside + inside,
+            other: t.other + (n - inside),
         };
-        let from = used + 4;
-        let end = from + n;
-        total = advance(
-            total,
-            &log[from..end],
-            powers,
-            openings,
-            sums,
-            nearest,
-            counts,
-        );
-        used = end;
     }
-}
 
-// The log has ended, and this is left of it.
-pub(crate) fn finish(
-    t: Total,
-    log: &[u8],
-    powers: &[u16],
-    openings: &[u16],
-    sums: &mut [u16],
-    nearest: &mut [u16],
-    counts: &mut [u32],
-) -> Report
-    requires { Sound t × Tables powers.now openings.now × Room sums.old nearest.old counts.old }
-    ensures { result ≡ report t log.now }
-{
-    let part = count_part(t, log, powers, openings, sums, nearest, counts);
-    let total = part.total;
-    let last = part.last;
-    if let Peek::BadMark = last {
-        return Report::BadMark(total.at);
+    // Takes the whole records at the front, up to a fault. Answers how many bytes they take, where what is behind them is not enough to tell.
+    #[tactic(auto, using(crate::proofs::ReadingLaws::whole_front))]
+    pub(crate) fn count_part(&mut self, log: &[u8]) -> Result<usize, Fault>
+        ensures taken { Continues self.old.total log.now self.new.total (left self.old.total self.new.total log.now) × (self.old.total.at ≤ self.new.total.at) × (self.new.total.at ≤ self.old.total.at + length log.now) }
+        ensures waits { IfOk result (λ used. (self.new.total.at ≡ self.old.total.at + used) × (peeked self.new.total.at (left self.old.total self.new.total log.now) ≡ Ok None)) }
+        ensures refused { IfErr result (λ fault. peeked self.new.total.at (left self.old.total self.new.total log.now) ≡ Err fault) }
+    {
+        let mut used = 0;
+        while let Some(n) = look(self.total.at, &log[used..])? {
+            let end = used + 4 + n;
+            self.advance(&log[used + 4..end]);
+            used = end;
+        }
+        Ok(used)
     }
-    if let Peek::TooLong = last {
-        return Report::TooLong;
+
+    // The log has ended, and this is left of it.
+    #[tactic(auto, using(logs::proofs::LogLaws::then_fault))]
+    pub(crate) fn finish(&mut self, log: &[u8]) -> Result<Total, Fault>
+        ensures { result ≡ report self.old.total log.now }
+    {
+        if self.count_part(log)? < log.len() {
+            return Err(Fault::BadRecord(self.total.at));
+        }
+        Ok(self.total)
     }
-    if part.used < log.len() {
-        return Report::BadRecord(total.at);
-    }
-    Report::Totals(total.records, total.frames, total.inside, total.other)
 }

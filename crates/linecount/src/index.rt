@@ -2,118 +2,93 @@
 // 0 come to the same at the record's end. From there on backwards each sum is one step, the end of the shortest frame is the latest place with the
 // sum that it must have, and what is counted behind that end is known. A place is told by how many bytes of the record are left there.
 ghost use Rattle.std.specs.Prelude.{◌≡◌, ℕ, ◌+◌, ◌-◌, ◌*◌, ◌/◌, ◌%◌, ◌<◌, ◌≤◌, length, bit_xor, slice_index};
-ghost use Rattle.modbus.specs.Bytes.{Bytes};
 ghost use Rattle.modbus.specs.Step.{choose};
 ghost use Rattle.logs.specs.Log.{counted_in};
-ghost use Rattle.linecount.specs.Sums.{power, Powers, Tables, Room, Sums, Counts, reaches?};
+ghost use Rattle.linecount.specs.Sums.{power, sums, counts, reaches?};
 
+use crate::tables::Tables;
 use logs::Counted;
-use std::num::wrapping_sub_usize;
 
 // How many bytes the longest frame has more than the shortest.
 const LONGER: usize = 252;
 
-fn wide(x: u8) -> usize
-    ensures { (result ≡ x) × (result < 256) }
-{
-    x as usize
-}
-
-fn place(x: u16) -> usize
-    ensures { (result ≡ x) × (result < 65536) }
-{
-    x as usize
-}
-
 // What the byte b adds to the sum where k bytes are left with it.
-fn added(powers: &[u16], k: usize, b: u8) -> u16
-    requires { (k ≤ 4096) × (length powers.now ≡ 131104) × Powers powers.now 131104 }
+fn added(tables: &Tables, k: usize, b: u8) -> u16
+    requires { k ≤ 4096 }
     ensures { result ≡ bit_xor (power (2 * k) (b / 16)) (power (2 * k + 1) (b % 16)) }
 {
-    let n = wide(b);
-    powers[32 * k + n / 16] ^ powers[32 * k + 16 + n % 16]
+    tables.powers[32 * k + b as usize / 16] ^ tables.powers[32 * k + 16 + b as usize % 16]
 }
 
-// The places where fewer than four bytes are left: no frame begins there.
-fn begin(record: &[u8], powers: &[u16], sums: &mut [u16], counts: &mut [u32])
-    requires { (4 ≤ length «record».now) × (length «record».now ≤ 4096) × (length powers.now ≡ 131104) × Powers powers.now 131104 × (length sums.old ≡ 4097) × (length counts.old ≡ 4097) }
-    ensures { Sums sums.new «record».now 4 × Counts counts.new «record».now 4 }
-{
-    let n = record.len();
-    sums[0] = 0;
-    counts[0] = 0;
-    for k in 1..4usize {
-        let z = sums[k - 1] ^ added(powers, k, record[n - k]);
-        sums[k] = z;
-        counts[k] = 0;
-    }
+// The sum at a place, and what is counted from there on: frames and bytes in one number, since a store more for each byte would cost 4 per cent.
+#[derive(Clone, Copy)]
+pub(crate) struct Place {
+    pub sum: u16,
+    pub counted: u32,
 }
 
-// What is counted from a start with k bytes left, where `next` is counted from the start behind it: a frame reaches from there to h where its sum is
-// w.
-fn counted(sums: &[u16], counts: &[u32], k: usize, h: usize, w: u16, next: u32) -> u32
-    requires { (k < length sums.now) × (k < length counts.now) × (k ≤ 4096) × (h < 65536) × ((j : ℕ) → j < k → slice_index counts.now j ≤ 268439552) }
-    ensures { result ≡ choose (reaches? sums.now k h w) (slice_index counts.now h + (65536 + (k - h))) next }
-{
-    if LONGER < wrapping_sub_usize(k, h + 4) {
-        return next;
-    }
-    if sums[h] != w {
-        return next;
-    }
-    counts[h] + (65536 + (k - h) as u32)
+// Room for the work on a record: a place for each number of bytes that may be left, and for each sum the latest place with it.
+#[derive(Drop)]
+pub(crate) struct Room {
+    pub places: [Place; 4097],
+    pub nearest: [u16; 65536],
 }
 
-// Every start from the end on. What `nearest` held before does not matter.
-fn fill(
-    record: &[u8],
-    powers: &[u16],
-    openings: &[u16],
-    sums: &mut [u16],
-    nearest: &mut [u16],
-    counts: &mut [u32],
-)
-    requires { (4 ≤ length «record».now) × (length «record».now ≤ 4096) × Bytes «record».now × Tables powers.now openings.now × Room sums.old nearest.old counts.old × Sums sums.old «record».now 4 × Counts counts.old «record».now 4 }
-    ensures { Counts counts.new «record».now (length «record».now + 1) }
-{
-    let n = record.len();
-    let mut z = sums[3];
-    let mut c = 0u32;
-    for k in 4..n + 1 {
-        z = z ^ added(powers, k, record[n - k]);
-        sums[k] = z;
-        let end = place(sums[k - 4]);
-        nearest[end] = (k - 4) as u16;
-        let w = z ^ openings[k];
-        let h = place(nearest[place(w)]);
-        c = counted(sums, counts, k, h, w, c);
-        counts[k] = c;
+impl Room {
+    pub(crate) fn new() -> Room {
+        Room {
+            places: [Place { sum: 0, counted: 0 }; 4097],
+            nearest: [0; 65536],
+        }
     }
-}
 
-pub(crate) fn count_record(
-    record: &[u8],
-    powers: &[u16],
-    openings: &[u16],
-    sums: &mut [u16],
-    nearest: &mut [u16],
-    counts: &mut [u32],
-) -> Counted
-    requires { (length «record».now ≤ 4096) × Bytes «record».now × Tables powers.now openings.now × Room sums.old nearest.old counts.old }
-    ensures { result ≡ counted_in «record».now }
-{
-    let n = record.len();
-    if n < 4 {
-        return Counted {
-            frames: 0,
-            inside: 0,
-        };
+    // What is counted from a start with k bytes left, where `next` is counted from the start behind it: a frame reaches from there to h where its sum
+    // is w.
+    fn counted(&self, k: usize, h: u16, w: u16, next: u32) -> u32
+        requires { (k ≤ 4096) × ((j : ℕ) → j < k → slice_index (counts self.now.places) j ≤ 268439552) }
+        ensures { result ≡ choose (reaches? (sums self.now.places) k h w) (slice_index (counts self.now.places) h + (65536 + (k - h))) next }
+    {
+        let h = h as usize;
+        if LONGER < k.wrapping_sub(h + 4) {
+            return next;
+        }
+        let end = &self.places[h];
+        if end.sum != w {
+            return next;
+        }
+        end.counted + (65536 + (k - h) as u32)
     }
-    begin(record, powers, sums, counts);
-    fill(record, powers, openings, sums, nearest, counts);
-    let c = counts[n];
-    Counted {
-        frames: (c / 65536) as usize,
-        inside: (c % 65536) as usize,
+
+    pub(crate) fn count_record(&mut self, record: &[u8], tables: &Tables) -> Counted
+        requires { length «record».now ≤ 4096 }
+        ensures { result ≡ counted_in «record».now }
+    {
+        let n = record.len();
+        if n < 4 {
+            return Counted::default();
+        }
+        // No frame begins where fewer than four bytes are left.
+        let mut z = 0u16;
+        self.places[0] = Place { sum: 0, counted: 0 };
+        for k in 1..4usize {
+            z ^= added(tables, k, record[n - k]);
+            self.places[k] = Place { sum: z, counted: 0 };
+        }
+        // Every start from the end on. What `nearest` held before does not matter.
+        let mut c = 0u32;
+        for k in 4..n + 1 {
+            z ^= added(tables, k, record[n - k]);
+            self.nearest[self.places[k - 4].sum as usize] = (k - 4) as u16;
+            let w = z ^ tables.openings[k];
+            c = self.counted(k, self.nearest[w as usize], w, c);
+            // Field by field: the whole would write its padding too, an instruction more for each byte.
+            let place = &mut self.places[k];
+            place.sum = z;
+            place.counted = c;
+        }
+        Counted {
+            frames: (c / 65536) as usize,
+            inside: (c % 65536) as usize,
+        }
     }
 }

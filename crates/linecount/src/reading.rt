@@ -1,157 +1,112 @@
 // A log as standard input brings it. The bytes of a record that is not whole yet wait at the front of the buffer.
-ghost use Rattle.std.specs.Prelude.{◌≡◌, ◌+◌, ◌-◌, ◌<◌, ◌≤◌, true, false, length, take, drop};
-ghost use Rattle.logs.specs.Log.{Sound, start};
-ghost use Rattle.linecount.specs.Sums.{Tables, Room};
-ghost use Rattle.linecount.specs.Reading.{Continues, Settled, is_more};
+ghost use Rattle.std.specs.Prelude.{◌≡◌, ◌+◌, ◌<◌, ◌≤◌, take, Err, IfOk, IfErr};
+ghost use Rattle.logs.specs.Log.{report};
+ghost use Rattle.linecount.specs.Reading.{Continues, Settled};
 
-use crate::count::count_part;
-use crate::voice;
-use logs::{Peek, Total};
+use crate::count::Counter;
+use crate::voice::Watch;
+use logs::{Fault, Total};
+use std::io;
 use std::io::{Read, Stdin};
 
-// Where the reading stands: the totals, how many bytes wait, whether more is to be read, and whether a read has failed.
-#[derive(Clone, Copy)]
-pub(crate) struct Reading {
-    pub total: Total,
-    pub have: usize,
-    pub more: bool,
-    pub failed: bool,
+// Why there are no totals.
+pub(crate) enum Failure {
+    CannotRead,
+    Refused(Fault),
 }
 
-// Room for a read, which is more than a record that is not whole yet.
-pub(crate) fn buffer() -> [u8; 65536]
-    ensures { 65536 ≡ length result }
-{
-    [0; 65536]
-}
-
-fn opening() -> Reading
-    ensures { (result.total ≡ start) × (result.have ≡ 0) }
-{
-    Reading {
-        total: Total {
-            at: 0,
-            records: 0,
-            frames: 0,
-            inside: 0,
-            other: 0,
-        },
-        have: 0,
-        more: true,
-        failed: false,
+impl From<io::Error> for Failure {
+    fn from(_error: io::Error) -> Failure {
+        Failure::CannotRead
     }
 }
 
-// The bytes from `used` on, up to `have`, move to the front. Answers how many they are.
-fn keep(buf: &mut [u8], used: usize, have: usize) -> usize
-    requires { (used ≤ have) × (have ≤ length buf.old) }
-    ensures { (result ≡ have - used) × (take (have - used) buf.new ≡ take (have - used) (drop used buf.old)) }
-{
-    let n = have - used;
-    if used == 0 {
-        return n;
+impl From<Fault> for Failure {
+    fn from(fault: Fault) -> Failure {
+        Failure::Refused(fault)
     }
-    for i in 0..n {
-        buf[i] = buf[used + i];
-    }
-    n
 }
 
-fn wants_more(p: Peek) -> bool
-    ensures { result ≡ is_more p }
-{
-    if let Peek::More = p { true } else { false }
-}
-
-// The whole records among the first `have` bytes are counted, and the rest of these is kept.
-fn take_in(
-    buf: &mut [u8],
-    total: Total,
+// What waits is less than a record, so there is always room for a read: a read into none would look like the end of the log.
+#[derive(Drop)]
+struct Buffer {
+    bytes: [u8; 65536],
     have: usize,
-    powers: &[u16],
-    openings: &[u16],
-    sums: &mut [u16],
-    nearest: &mut [u16],
-    counts: &mut [u32],
-) -> Reading
-    requires { (have ≤ length buf.old) × Sound total × Tables powers.now openings.now × Room sums.old nearest.old counts.old }
-    ensures have_in_bounds { (result.have ≤ length buf.new) × Sound result.total × (result.total.at + result.have ≡ total.at + have) × (result.more ≡ true → result.have < 4100) }
-    ensures continues { Continues total (take have buf.old) result.total (take result.have buf.new) × (result.more ≡ false → Settled result.total (take result.have buf.new)) }
-{
-    let part = count_part(total, &buf[..have], powers, openings, sums, nearest, counts);
-    let total = part.total;
-    let last = part.last;
-    let used = part.used;
-    Reading {
-        total: total,
-        have: keep(buf, used, have),
-        more: wants_more(last),
-        failed: false,
-    }
+    ghost less: { have < 4100 },
 }
 
-// One read more. There is room for it: a read into none would look like the end of the log.
-fn turn(
-    input: Stdin,
-    buf: &mut [u8],
-    s: Reading,
-    powers: &[u16],
-    openings: &[u16],
-    sums: &mut [u16],
-    nearest: &mut [u16],
-    counts: &mut [u32],
-) -> Reading
-    requires { (s.have < length buf.old) × Sound s.total × Tables powers.now openings.now × Room sums.old nearest.old counts.old }
-    ensures { (result.have ≤ length buf.new) × Sound result.total × (result.more ≡ true → result.have < 4100) × (result.more ≡ true → s.total.at + s.have < result.total.at + result.have) }
-{
-    let have = s.have;
-    let mut input = input;
-    let mut t = s;
-    t.more = false;
-    let Ok(n) = input.read(&mut buf[have..]) else {
-        t.failed = true;
-        return t;
-    };
-    if n == 0 {
-        return t;
-    }
-    let total = s.total;
-    take_in(
-        buf,
-        total,
-        have + n,
-        powers,
-        openings,
-        sums,
-        nearest,
-        counts,
-    )
-}
-
-// Reads until the log ends or a fault is met. A proved loop has to end, and nothing says that the input does: every turn but the last reads a byte
-// or more, and not more than 4,294,971,394 bytes are taken in before a log is refused as too long.
-pub(crate) fn read_log(
-    rt: &HostRuntime,
-    buf: &mut [u8],
-    powers: &[u16],
-    openings: &[u16],
-    sums: &mut [u16],
-    nearest: &mut [u16],
-    counts: &mut [u32],
-) -> Reading
-    requires { (length buf.old ≡ 65536) × Tables powers.now openings.now × Room sums.old nearest.old counts.old }
-    ensures { (result.have ≤ length buf.new) × Sound result.total × (result.more ≡ false) }
-{
-    let mut s = opening();
-    let mut watch = voice::begin(rt);
-    for _ in 0..4294971395u64 {
-        if !s.more {
-            voice::end(rt, watch);
-            return s;
+impl Buffer {
+    fn new() -> Buffer {
+        Buffer {
+            bytes: [0; 65536],
+            have: 0,
         }
-        s = turn(rt.stdin(), buf, s, powers, openings, sums, nearest, counts);
-        let total = s.total;
-        watch = voice::tell(rt, watch, total);
     }
-    s
+
+    fn waiting(&self) -> &[u8]
+        ensures { result.now ≡ take self.now.have self.now.bytes }
+    {
+        &self.bytes[..self.have]
+    }
+
+    // Behind what waits stand n bytes more. The whole records among them are counted, and the rest waits.
+    #[tactic(auto, using(crate::proofs::ReadingLaws::fault_settles))]
+    fn take_in(&mut self, n: usize, counter: &mut Counter) -> Result<(), Fault>
+        requires { self.old.have + n ≤ 65536 }
+        ensures continues { IfOk result (λ _. Continues counter.old.total (take (self.old.have + n) self.old.bytes) counter.new.total (take self.new.have self.new.bytes)) }
+        ensures settled { IfErr result (λ fault. Settled counter.old.total (take (self.old.have + n) self.old.bytes) × (report counter.old.total (take (self.old.have + n) self.old.bytes) ≡ Err fault)) }
+        ensures kept { IfErr result (λ _. self.new ≡ self.old) }
+        ensures moves { IfOk result (λ _. counter.new.total.at + self.new.have ≡ counter.old.total.at + (self.old.have + n)) }
+    {
+        let end = self.have + n;
+        let used = counter.count_part(&self.bytes[..end])?;
+        self.bytes.copy_within(used..end, 0);
+        self.have = end - used;
+        Ok(())
+    }
+
+    // One read more. Answers how many bytes it brought: none at the end of the log.
+    fn turn(&mut self, input: &mut Stdin, counter: &mut Counter) -> Result<usize, Failure>
+        ensures { IfOk result (λ n. counter.new.total.at + self.new.have ≡ counter.old.total.at + (self.old.have + n)) }
+    {
+        let n = input.read(&mut self.bytes[self.have..])?;
+        self.take_in(n, counter)?;
+        Ok(n)
+    }
+}
+
+// How many turns there may be. A proved loop has to end, and nothing says that the input does: every turn but the last reads a byte or more, and not
+// more than 4,294,971,394 bytes are taken in before a log is refused as too long.
+const TURNS: u64 = 4294971395;
+
+// Reads until the log ends.
+fn read_log(
+    rt: &HostRuntime,
+    buffer: &mut Buffer,
+    counter: &mut Counter,
+    watch: &mut Option<Watch>,
+) -> Result<(), Failure> {
+    let mut input = rt.stdin();
+    for _turn in 0..TURNS {
+        let turn = buffer.turn(&mut input, counter);
+        if let Some(w) = watch {
+            w.tell(rt, counter.total);
+        }
+        if turn? == 0 {
+            return Ok(());
+        }
+    }
+    unreachable!()
+}
+
+// Counts the log on standard input.
+pub(crate) fn count_log(rt: &HostRuntime, counter: &mut Counter) -> Result<Total, Failure> {
+    let mut buffer = Buffer::new();
+    let mut watch = Watch::begin(rt);
+    let all = read_log(rt, &mut buffer, counter, &mut watch);
+    if let Some(w) = watch {
+        w.end(rt);
+    }
+    all?;
+    Ok(counter.finish(buffer.waiting())?)
 }

@@ -1,7 +1,7 @@
-// The tables of the search, which are made once, and room for its work.
-ghost use Rattle.std.specs.Prelude.{◌≡◌, ◌+◌, ◌*◌, ◌/◌, ◌%◌, ◌<◌, length};
+// The tables of the search, which are made once.
+ghost use Rattle.std.specs.Prelude.{◌≡◌, ℕ, ◌*◌, ◌/◌, ◌%◌, ◌<◌, length};
 ghost use Rattle.modbus.specs.Check.{shifts};
-ghost use Rattle.linecount.specs.Sums.{power, Powers, Openings};
+ghost use Rattle.linecount.specs.Sums.{power, Filled, Powers, Openings};
 
 use checks::crc_shift;
 
@@ -11,79 +11,70 @@ fn shifted_four(c: u16) -> u16
     crc_shift(crc_shift(crc_shift(crc_shift(c as u32)))) as u16
 }
 
-// Entry j of the half bytes, of which those before it are there.
-fn power_at(powers: &[u16], j: usize) -> u16
-    requires { (j < length powers.now) × Powers powers.now j }
-    ensures { result ≡ power (j / 16) (j % 16) }
-{
-    if j < 16 {
-        return 16 * (j as u16);
-    }
-    shifted_four(powers[j - 16])
-}
+// What a table holds, entry by entry: each is made of those before it.
+trait Entries {
+    ghost entry: { ℕ → ℕ };
 
-fn fill_powers(powers: &mut [u16])
-    ensures { Powers powers.new (length powers.new) }
-{
-    for j in 0..powers.len() {
-        let x = power_at(powers, j);
-        powers[j] = x;
-    }
-}
-
-// Entry k of the start value's shifts, of which those before it are there.
-fn opening_at(openings: &[u16], k: usize) -> u16
-    requires { (k < length openings.now) × Openings openings.now k }
-    ensures { result ≡ shifts (8 * k) 0xFFFF }
-{
-    if k == 0 {
-        return 0xFFFF;
-    }
-    shifted_four(shifted_four(openings[k - 1]))
-}
-
-fn fill_openings(openings: &mut [u16])
-    ensures { Openings openings.new (length openings.new) }
-{
-    for k in 0..openings.len() {
-        let x = opening_at(openings, k);
-        openings[k] = x;
-    }
+    fn next(table: &[u16], n: usize) -> u16
+        requires { (n < length table.now) × Filled entry table.now n }
+        ensures { result ≡ entry n };
 }
 
 // Sixteen half bytes, each shifted by four once more than the sixteen before: two rows for each byte of a record.
-pub(crate) fn powers() -> [u16; 131104]
-    ensures { (131104 ≡ length result) × Powers result 131104 }
-{
-    let mut table = [0u16; 131104];
-    fill_powers(&mut table);
-    table
+struct HalfBytes;
+
+impl Entries for HalfBytes {
+    ghost entry = { λ j. power (j / 16) (j % 16) };
+
+    #[tactic(auto, using(crate::proofs::TableLaws::power_first, crate::proofs::TableLaws::power_next))]
+    fn next(table: &[u16], n: usize) -> u16 {
+        if n < 16 {
+            return 16 * (n as u16);
+        }
+        shifted_four(table[n - 16])
+    }
 }
 
-pub(crate) fn openings() -> [u16; 4097]
-    ensures { (4097 ≡ length result) × Openings result 4097 }
-{
-    let mut table = [0u16; 4097];
-    fill_openings(&mut table);
-    table
+// The start value, shifted by eight once more for each byte of a record.
+struct StartValues;
+
+impl Entries for StartValues {
+    ghost entry = { λ k. shifts (8 * k) 0xFFFF };
+
+    #[tactic(auto, using(crate::proofs::TableLaws::opening_first, crate::proofs::TableLaws::opening_next))]
+    fn next(table: &[u16], n: usize) -> u16 {
+        if n == 0 {
+            return 0xFFFF;
+        }
+        shifted_four(shifted_four(table[n - 1]))
+    }
 }
 
-// A sum for each number of bytes that a record may have left, and none.
-pub(crate) fn sums() -> [u16; 4097]
-    ensures { 4097 ≡ length result }
+fn fill<T: Entries>(table: &mut [u16])
+    ensures { Filled T.entry table.new (length table.new) }
 {
-    [0; 4097]
+    for n in 0..table.len() {
+        let x = T::next(table, n);
+        table[n] = x;
+    }
 }
 
-// A place for each sum.
-pub(crate) fn places() -> [u16; 65536]
-    ensures { 65536 ≡ length result }
-{
-    [0; 65536]
+#[derive(Drop)]
+pub(crate) struct Tables {
+    pub powers: [u16; 131104],
+    pub openings: [u16; 4097],
+    ghost half_bytes: { Powers powers 131104 },
+    ghost start_values: { Openings openings 4097 },
 }
 
-pub(crate) fn counts() -> [u32; 4097]
-    ensures { 4097 ≡ length result }
-{
-    [0; 4097]
+impl Tables {
+    pub(crate) fn new() -> Tables {
+        let mut tables = Tables {
+            powers: [0; 131104],
+            openings: [0; 4097],
+        };
+        fill::<HalfBytes>(&mut tables.powers);
+        fill::<StartValues>(&mut tables.openings);
+        tables
+    }
 }

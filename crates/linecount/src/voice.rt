@@ -1,5 +1,6 @@
 // What is printed: the totals or the fault on standard output, and how far the count is on a terminal.
-use logs::{Report, Total};
+use crate::reading::Failure;
+use logs::{Fault, Total};
 use std::io::IsTerminal;
 use std::time::Clock;
 
@@ -8,72 +9,77 @@ fn line(rt: &HostRuntime, what: &str, n: u64) {
 }
 
 // What cannot be written is let go: the status is 0, whatever comes.
-pub(crate) fn say(rt: &HostRuntime, r: Report) {
-    match r {
-        Report::Totals(records, frames, inside, other) => {
-            line(rt, "records", records);
-            line(rt, "frames", frames);
-            line(rt, "frame bytes", inside);
-            line(rt, "other bytes", other);
+pub(crate) fn say(rt: &HostRuntime, outcome: Result<Total, Failure>) {
+    match outcome {
+        Ok(total) => {
+            line(rt, "records", total.records);
+            line(rt, "frames", total.frames);
+            line(rt, "frame bytes", total.inside);
+            line(rt, "other bytes", total.other);
         }
-        Report::BadMark(at) => line(rt, "bad mark at", at),
-        Report::BadRecord(at) => line(rt, "bad record at", at),
-        Report::TooLong => {
+        Err(Failure::Refused(Fault::BadMark(at))) => line(rt, "bad mark at", at),
+        Err(Failure::Refused(Fault::BadRecord(at))) => line(rt, "bad record at", at),
+        Err(Failure::Refused(Fault::TooLong)) => {
             let _ = println!(rt; "too long");
         }
+        Err(Failure::CannotRead) => {
+            let _ = eprintln!(rt; "linecount: cannot read");
+        }
     }
-}
-
-// The second in which something was last told, whether a whole one has begun since the start, and whether a line stands on the terminal.
-#[derive(Clone, Copy)]
-pub(crate) struct Watch {
-    terminal: bool,
-    second: u64,
-    begun: bool,
-    told: bool,
 }
 
 // A clock that cannot be read stands still.
 fn second(rt: &HostRuntime) -> u64 {
-    match rt.since_1970() {
-        Ok(t) => t.as_secs(),
-        Err(_) => 0,
-    }
+    rt.since_1970().map_or(0, |t| t.as_secs())
 }
 
-pub(crate) fn begin(rt: &HostRuntime) -> Watch {
-    Watch {
-        terminal: rt.stderr().is_terminal(),
-        second: second(rt),
-        begun: false,
-        told: false,
-    }
+// How the telling goes: not a whole second has begun yet, one has, a line stands on the terminal.
+#[derive(Clone, Copy)]
+enum Step {
+    First,
+    Begun,
+    Told,
 }
 
-// On a terminal, once a second, from the second second on: how far the log is counted. The line is written over.
-pub(crate) fn tell(rt: &HostRuntime, w: Watch, total: Total) -> Watch {
-    if !w.terminal {
-        return w;
+// Tells on a terminal how far the count is. `second` is the one in which it last looked.
+#[derive(Clone, Copy)]
+pub(crate) struct Watch {
+    second: u64,
+    step: Step,
+}
+
+impl Watch {
+    // None where standard error is no terminal.
+    pub(crate) fn begin(rt: &HostRuntime) -> Option<Watch> {
+        if !rt.stderr().is_terminal() {
+            return None;
+        }
+        Some(Watch {
+            second: second(rt),
+            step: Step::First,
+        })
     }
-    let now = second(rt);
-    if now == w.second {
-        return w;
-    }
-    if w.begun {
+
+    // Once a second, from the second second on: how far the log is counted. The line is written over.
+    pub(crate) fn tell(&mut self, rt: &HostRuntime, total: Total) {
+        let now = second(rt);
+        if now == self.second {
+            return;
+        }
+        self.second = now;
+        if let Step::First = self.step {
+            self.step = Step::Begun;
+            return;
+        }
         let at = total.at;
         let frames = total.frames;
         let _ = eprint!(rt; "\rlinecount: {at} bytes, {frames} frames");
+        self.step = Step::Told;
     }
-    Watch {
-        terminal: true,
-        second: now,
-        begun: true,
-        told: w.begun,
-    }
-}
 
-pub(crate) fn end(rt: &HostRuntime, w: Watch) {
-    if w.told {
-        let _ = eprintln!(rt;);
+    pub(crate) fn end(self, rt: &HostRuntime) {
+        if let Step::Told = self.step {
+            let _ = eprintln!(rt;);
+        }
     }
 }

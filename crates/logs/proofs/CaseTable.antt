@@ -8,10 +8,8 @@ use native.Mathlib.Decide.{dec_le, ℕ_discrete}
 use Rattle.modbus.specs.Step.{choose, need, ◌>>◌, ◌or?◌}
 use Rattle.modbus.specs.Check.{shift, shifts, crc_byte, crc_from, crc}
 use Rattle.logs.specs.Search.{lengths, starts, first_in}
-use Rattle.logs.specs.Log.{counting, counted_in, weighed, peeked, advanced, tally, report, start}
+use Rattle.logs.specs.Log.{Peek, Report, counting, counted_in, weighed, peeked, advanced, tally, report, start}
 use Rattle.logs.specs.Cases.{logs, fronts}
-use Rattle.logs.specs.declared.Peek.{Peek}
-use Rattle.logs.specs.declared.Report.{Report}
 
 pub all_logs : map (λ (c : List ℕ × Report). (c.0, report start c.0)) logs ≡ logs
 unfolding dec_le ℕ_discrete choose need ◌>>◌ ◌or?◌ Dec.and shift shifts crc_byte crc_from crc lengths starts first_in counting counted_in weighed peeked advanced tally report

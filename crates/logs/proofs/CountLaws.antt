@@ -6,8 +6,9 @@ use Prim.Native.Nat.{ℕ, zero, suc, ◌+◌, ◌-◌, ◌≤◌, ◌<◌}
 use native.Mathlib.Omega.{arith}
 use lib.ListN.{length}
 use Rattle.logs.specs.Search.{Seen, none, stood, first_in}
-use Rattle.logs.specs.Log.{counted, more, behind, counting, counted_in, rest}
+use Rattle.logs.specs.Log.{counted, more, behind, counting, counted_in, rest, Sound, advanced}
 use Rattle.logs.specs.declared.Counted.{Counted}
+use Rattle.logs.specs.declared.Total.{Total}
 use Rattle.logs.proofs.FirstLaws.{search_cases}
 
 behind_none : (f : ℕ → Counted) (x : Seen) → x ≡ none → behind f x ≡ counted 0 0
@@ -96,3 +97,10 @@ counted_fits l =
     let i = ap (λ (x : Counted). x.inside) (counted_rest l) in
     let r = rest_fits l 0 (omega arith) in
     (omega (arith, f, i, r.0), omega (arith, i, r.1))
+
+-- one record more leaves the totals sound
+pub sound_more : (t : Total) (l : List ℕ) → Sound t → t.at + (4 + length l) ≤ 4294967295 → Sound (advanced t l)
+unfolding advanced
+sound_more t l s h =
+    let (f, i) = counted_fits l in
+    (omega (arith, h), omega (arith, s.1), omega (arith, s.2, f, i), omega (arith, s.3, i))

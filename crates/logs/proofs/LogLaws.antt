@@ -10,54 +10,53 @@ use lib.Seq.{drop-append-le, take-append-le, length-take-le}
 use Rattle.modbus.specs.Step.{◌≤?◌}
 use Rattle.modbus.specs.Bytes.{word_at}
 use Rattle.modbus.proofs.StepLaws.{pass, fail}
-use Rattle.logs.specs.Log.{counted_in, Marked, marked?, weighed, seen_as, peeked, advanced, Sound, go_on, tally, report}
+use Rattle.std.specs.Prelude.{Some, None, Ok, Err}
+use Rattle.logs.specs.Log.{counted_in, Marked, marked?, Peek, weighed, seen_as, peeked, advanced, Sound, Report, finished, go_on, tally, report}
 use Rattle.logs.specs.declared.Counted.{Counted}
 use Rattle.logs.specs.declared.Total.{Total}
-use Rattle.logs.specs.declared.Peek.{Peek}
-use Rattle.logs.specs.declared.Peek.TheVariants.{Whole, BadMark, BadRecord, TooLong, More}
-use Rattle.logs.specs.declared.Report.{Report}
-use Rattle.logs.specs.declared.Report.TheVariants as says
-use Rattle.logs.proofs.CountLaws.{counted_fits}
+use Rattle.logs.specs.declared.Fault.{Fault}
+use Rattle.logs.specs.declared.Fault.TheVariants.{BadMark, BadRecord, TooLong}
+use Rattle.logs.proofs.CountLaws.{counted_fits, sound_more}
 
 -- ---- the front of a log
 
 module _ (o : ℕ) (l : List ℕ) where
-  pub peek_mark : ¬ Marked l → peeked o l ≡ BadMark
+  pub peek_mark : ¬ Marked l → peeked o l ≡ Err (BadMark o)
   unfolding peeked weighed
   peek_mark h = ap seen_as (fail _ _ _ h)
 
   module _ (m : Marked l) where
-    pub peek_few : ¬ 4 ≤ length l → peeked o l ≡ More
+    pub peek_few : ¬ 4 ≤ length l → peeked o l ≡ Ok None
     unfolding peeked weighed
     peek_few h = ap seen_as (pass _ _ _ m ∙ fail _ _ _ h)
 
     module _ (a : 4 ≤ length l) where
-      pub peek_large : ¬ word_at l 2 ≤ 4096 → peeked o l ≡ BadRecord
+      pub peek_large : ¬ word_at l 2 ≤ 4096 → peeked o l ≡ Err (BadRecord o)
       unfolding peeked weighed
       peek_large h = ap seen_as (pass _ _ _ m ∙ pass _ _ _ a ∙ fail _ _ _ h)
 
       module _ (b : word_at l 2 ≤ 4096) where
-        pub peek_cut : ¬ 4 + word_at l 2 ≤ length l → peeked o l ≡ More
+        pub peek_cut : ¬ 4 + word_at l 2 ≤ length l → peeked o l ≡ Ok None
         unfolding peeked weighed
         peek_cut h = ap seen_as (pass _ _ _ m ∙ pass _ _ _ a ∙ pass _ _ _ b ∙ fail _ _ _ h)
 
         module _ (c : 4 + word_at l 2 ≤ length l) where
-          pub peek_long : ¬ o + (4 + word_at l 2) ≤ 4294967295 → peeked o l ≡ TooLong
+          pub peek_long : ¬ o + (4 + word_at l 2) ≤ 4294967295 → peeked o l ≡ Err TooLong
           unfolding peeked weighed
           peek_long h = ap seen_as (pass _ _ _ m ∙ pass _ _ _ a ∙ pass _ _ _ b ∙ pass _ _ _ c ∙ fail _ _ _ h)
 
-          pub peek_whole : o + (4 + word_at l 2) ≤ 4294967295 → peeked o l ≡ Whole (word_at l 2)
+          pub peek_whole : o + (4 + word_at l 2) ≤ 4294967295 → peeked o l ≡ Ok (Some (word_at l 2))
           unfolding peeked weighed
           peek_whole h = ap seen_as (pass _ _ _ m ∙ pass _ _ _ a ∙ pass _ _ _ b ∙ pass _ _ _ c ∙ pass _ _ _ h)
 
 -- by cases of what is said
 pub peek_cases : {C : Type 0} (o : ℕ) (l : List ℕ)
-    → (¬ Marked l → peeked o l ≡ BadMark → C)
-    → (Marked l → length l < 4 → peeked o l ≡ More → C)
-    → (Marked l → 4 ≤ length l → ¬ word_at l 2 ≤ 4096 → peeked o l ≡ BadRecord → C)
-    → (Marked l → 4 ≤ length l → word_at l 2 ≤ 4096 → ¬ 4 + word_at l 2 ≤ length l → peeked o l ≡ More → C)
-    → (Marked l → 4 ≤ length l → word_at l 2 ≤ 4096 → 4 + word_at l 2 ≤ length l → ¬ o + (4 + word_at l 2) ≤ 4294967295 → peeked o l ≡ TooLong → C)
-    → (Marked l → 4 ≤ length l → word_at l 2 ≤ 4096 → 4 + word_at l 2 ≤ length l → o + (4 + word_at l 2) ≤ 4294967295 → peeked o l ≡ Whole (word_at l 2) → C)
+    → (¬ Marked l → peeked o l ≡ Err (BadMark o) → C)
+    → (Marked l → length l < 4 → peeked o l ≡ Ok None → C)
+    → (Marked l → 4 ≤ length l → ¬ word_at l 2 ≤ 4096 → peeked o l ≡ Err (BadRecord o) → C)
+    → (Marked l → 4 ≤ length l → word_at l 2 ≤ 4096 → ¬ 4 + word_at l 2 ≤ length l → peeked o l ≡ Ok None → C)
+    → (Marked l → 4 ≤ length l → word_at l 2 ≤ 4096 → 4 + word_at l 2 ≤ length l → ¬ o + (4 + word_at l 2) ≤ 4294967295 → peeked o l ≡ Err TooLong → C)
+    → (Marked l → 4 ≤ length l → word_at l 2 ≤ 4096 → 4 + word_at l 2 ≤ length l → o + (4 + word_at l 2) ≤ 4294967295 → peeked o l ≡ Ok (Some (word_at l 2)) → C)
     → C
 peek_cases o l mark few large cut long whole =
     by_cases (marked? l)
@@ -96,8 +95,8 @@ mark_front l r (p, q) = (by_cases (length l ≤? 0) (λ h. inl h) (λ h. inr (on
     two : ¬ length l ≤ 1 → (length (l ++ r) ≤ 1) ⊎ (get_or (l ++ r) 1 0 ≡ 0x42) → get_or l 1 0 ≡ 0x42
     two h x = sym (get_or-append l r 0 1 (let z : 1 < length l = omega arith in z)) ∙ ⊎_elim (λ e. absurd (omega (arith, k))) (λ e. e) x
 
--- what is said of the front, but for More, is said whatever comes behind
-pub peek_stays : (o : ℕ) (l r : List ℕ) → (peeked o l ≡ More) ⊎ (peeked o (l ++ r) ≡ peeked o l)
+-- what is said of the front, but for nothing yet, is said whatever comes behind
+pub peek_stays : (o : ℕ) (l r : List ℕ) → (peeked o l ≡ Ok None) ⊎ (peeked o (l ++ r) ≡ peeked o l)
 peek_stays o l r =
     let k = length-append l r in
     peek_cases o l
@@ -106,28 +105,19 @@ peek_stays o l r =
     (λ m a b e. let w = word_append l r 2 (omega arith) in inr (peek_large o (l ++ r) (mark_append l r (omega arith) m) (omega (arith, k)) (λ h. b (omega (arith, w, h))) ∙ sym e))
     (λ m a b c e. inl e)
     (λ m a b c d e. let w = word_append l r 2 (omega arith) in inr (peek_long o (l ++ r) (mark_append l r (omega arith) m) (omega (arith, k)) (omega (arith, w)) (omega (arith, w, k)) (λ h. d (omega (arith, w, h))) ∙ sym e))
-    (λ m a b c d e. let w = word_append l r 2 (omega arith) in inr (peek_whole o (l ++ r) (mark_append l r (omega arith) m) (omega (arith, k)) (omega (arith, w)) (omega (arith, w, k)) (omega (arith, w)) ∙ ap Whole w ∙ sym e))
+    (λ m a b c d e. let w = word_append l r 2 (omega arith) in inr (peek_whole o (l ++ r) (mark_append l r (omega arith) m) (omega (arith, k)) (omega (arith, w)) (omega (arith, w, k)) (omega (arith, w)) ∙ ap (λ n. Ok (Some n)) w ∙ sym e))
 
--- which of the five it is, as a number
+-- which of the three it is, as a number
 abbrev kind : Peek → ℕ
-kind BadMark = 0
-kind BadRecord = 1
-kind TooLong = 2
-kind More = 3
-kind (Whole n) = 4
-
-abbrev size : Peek → ℕ
-size BadMark = 0
-size BadRecord = 0
-size TooLong = 0
-size More = 0
-size (Whole n) = n
+kind (Err f) = 0
+kind (Ok None) = 1
+kind (Ok (Some n)) = 2
 
 unlike : {C : Type 0} {p q : Peek} → p ≡ q → ¬ kind p ≡ kind q → C
 unlike e h = absurd (h (ap kind e))
 
 -- a whole record
-pub whole_is : (o : ℕ) (l : List ℕ) (n : ℕ) → peeked o l ≡ Whole n → (4 + n ≤ length l) × (n ≤ 4096) × (o + (4 + n) ≤ 4294967295)
+pub whole_is : (o : ℕ) (l : List ℕ) (n : ℕ) → peeked o l ≡ Ok (Some n) → (4 + n ≤ length l) × (n ≤ 4096) × (o + (4 + n) ≤ 4294967295)
 whole_is o l n w =
     peek_cases o l
     (λ m e. unlike (sym e ∙ w) (λ h. omega (arith, h)))
@@ -135,16 +125,16 @@ whole_is o l n w =
     (λ m a b e. unlike (sym e ∙ w) (λ h. omega (arith, h)))
     (λ m a b c e. unlike (sym e ∙ w) (λ h. omega (arith, h)))
     (λ m a b c d e. unlike (sym e ∙ w) (λ h. omega (arith, h)))
-    (λ m a b c d e. let z = ap size (sym e ∙ w) in (omega (arith, z), omega (arith, z), omega (arith, z)))
+    (λ m a b c d e. let y = sym e ∙ w in let z : word_at l 2 ≡ n = cc in (omega (arith, z), omega (arith, z), omega (arith, z)))
 
-pub whole_fits : (o : ℕ) (l : List ℕ) (n : ℕ) → peeked o l ≡ Whole n → 4 + n ≤ length l
+pub whole_fits : (o : ℕ) (l : List ℕ) (n : ℕ) → peeked o l ≡ Ok (Some n) → 4 + n ≤ length l
 whole_fits o l n w = (whole_is o l n w).0
 
-pub whole_stays : (o : ℕ) (l r : List ℕ) (n : ℕ) → peeked o l ≡ Whole n → peeked o (l ++ r) ≡ Whole n
+pub whole_stays : (o : ℕ) (l r : List ℕ) (n : ℕ) → peeked o l ≡ Ok (Some n) → peeked o (l ++ r) ≡ Ok (Some n)
 whole_stays o l r n w = ⊎_elim (λ e. unlike (sym e ∙ w) (λ h. omega (arith, h))) (λ e. e ∙ w) (peek_stays o l r)
 
 -- what is not enough to tell is short, so that there is always room to read into
-pub more_short : (o : ℕ) (l : List ℕ) → peeked o l ≡ More → length l < 4100
+pub more_short : (o : ℕ) (l : List ℕ) → peeked o l ≡ Ok None → length l < 4100
 more_short o l w =
     peek_cases o l
     (λ m e. unlike (sym e ∙ w) (λ h. omega (arith, h)))
@@ -157,15 +147,13 @@ more_short o l w =
 -- ---- record by record
 
 same_after : (f g : Total → List ℕ → Report) (t : Total) (l : List ℕ) (p : Peek)
-    → ((n : ℕ) → p ≡ Whole n → f (advanced t (take n (drop 4 l))) (drop (4 + n) l) ≡ g (advanced t (take n (drop 4 l))) (drop (4 + n) l))
+    → ((n : ℕ) → p ≡ Ok (Some n) → f (advanced t (take n (drop 4 l))) (drop (4 + n) l) ≡ g (advanced t (take n (drop 4 l))) (drop (4 + n) l))
     → go_on f t l p ≡ go_on g t l p
-same_after f g t l BadMark h = refl
-same_after f g t l BadRecord h = refl
-same_after f g t l TooLong h = refl
-same_after f g t l More h = refl
-same_after f g t l (Whole n) h = h n refl
+same_after f g t l (Err e) h = refl
+same_after f g t l (Ok None) h = refl
+same_after f g t l (Ok (Some n)) h = h n refl
 
-peek_empty : (o : ℕ) → peeked o [] ≡ More
+peek_empty : (o : ℕ) → peeked o [] ≡ Ok None
 peek_empty o = peek_few o [] (inl (omega arith), inl (omega arith)) (λ h. omega arith)
 
 -- more fuel than bytes changes nothing
@@ -182,7 +170,7 @@ tally_enough (suc k) (suc j) t l a b =
     let d = length-drop (4 + n) l in
     tally_enough k j _ (drop (4 + n) l) (omega (arith, f, d)) (omega (arith, f, d)))
 
-tally_whole : (k : ℕ) (t : Total) (l : List ℕ) (n : ℕ) → length l ≤ k → peeked t.at l ≡ Whole n → tally k t l ≡ report (advanced t (take n (drop 4 l))) (drop (4 + n) l)
+tally_whole : (k : ℕ) (t : Total) (l : List ℕ) (n : ℕ) → length l ≤ k → peeked t.at l ≡ Ok (Some n) → tally k t l ≡ report (advanced t (take n (drop 4 l))) (drop (4 + n) l)
 unfolding tally report
 tally_whole zero t l n h e = let f = whole_fits t.at l n e in absurd (omega arith)
 tally_whole (suc k) t l n h e =
@@ -191,7 +179,7 @@ tally_whole (suc k) t l n h e =
     ap (go_on (tally k) t l) e ∙ tally_enough k (length (drop (4 + n) l)) _ (drop (4 + n) l) (omega (arith, f, d)) (omega arith)
 
 -- one record more
-pub report_step : (t : Total) (l r : List ℕ) (n : ℕ) → peeked t.at l ≡ Whole n
+pub report_step : (t : Total) (l r : List ℕ) (n : ℕ) → peeked t.at l ≡ Ok (Some n)
     → report t (l ++ r) ≡ report (advanced t (take n (drop 4 l))) (drop (4 + n) l ++ r)
 unfolding report
 report_step t l r n e =
@@ -205,44 +193,55 @@ none_left : (t : Total) → tally zero t [] ≡ go_on report t [] (peeked t.at [
 unfolding tally
 none_left t = sym (ap (go_on report t []) (peek_empty t.at))
 
-some_left : (k : ℕ) (t : Total) (l : List ℕ) → ((n : ℕ) → ¬ peeked t.at l ≡ Whole n) → tally (suc k) t l ≡ go_on report t l (peeked t.at l)
+some_left : (k : ℕ) (t : Total) (l : List ℕ) → ((n : ℕ) → ¬ peeked t.at l ≡ Ok (Some n)) → tally (suc k) t l ≡ go_on report t l (peeked t.at l)
 unfolding tally
 some_left k t l h = same_after (tally k) report t l (peeked t.at l) (λ n e. absurd (h n e))
 
 -- where no whole record stands at the front
-pub report_last : (t : Total) (l : List ℕ) → ((n : ℕ) → ¬ peeked t.at l ≡ Whole n) → report t l ≡ go_on report t l (peeked t.at l)
+pub report_last : (t : Total) (l : List ℕ) → ((n : ℕ) → ¬ peeked t.at l ≡ Ok (Some n)) → report t l ≡ go_on report t l (peeked t.at l)
 unfolding report
 report_last t l h = by_fuel (length l) l refl h
   where
-    by_fuel : (k : ℕ) (l : List ℕ) → length l ≡ k → ((n : ℕ) → ¬ peeked t.at l ≡ Whole n) → tally k t l ≡ go_on report t l (peeked t.at l)
+    by_fuel : (k : ℕ) (l : List ℕ) → length l ≡ k → ((n : ℕ) → ¬ peeked t.at l ≡ Ok (Some n)) → tally k t l ≡ go_on report t l (peeked t.at l)
     by_fuel zero [] e h = none_left t
     by_fuel zero (x ∷ l) e h = absurd (omega arith)
     by_fuel (suc k) l e h = some_left k t l h
 
 -- ---- the end of a log
 
+told : (t : Total) (l : List ℕ) (p : Peek) → peeked t.at l ≡ p → ¬ kind p ≡ 2 → report t l ≡ go_on report t l p
+told t l p e k = report_last t l (λ n w. unlike (sym e ∙ w) k) ∙ ap (go_on report t l) e
+
 module _ (t : Total) (l : List ℕ) where
-  pub ends_mark : peeked t.at l ≡ BadMark → report t l ≡ says.BadMark t.at
-  ends_mark e = report_last t l (λ n w. unlike (sym e ∙ w) (λ h. omega (arith, h))) ∙ ap (go_on report t l) e
+  pub ends_fault : (f : Fault) → peeked t.at l ≡ Err f → report t l ≡ Err f
+  ends_fault f e = told t l (Err f) e (λ h. omega (arith, h))
 
-  pub ends_long : peeked t.at l ≡ TooLong → report t l ≡ says.TooLong
-  ends_long e = report_last t l (λ n w. unlike (sym e ∙ w) (λ h. omega (arith, h))) ∙ ap (go_on report t l) e
+  pub ends_mark : peeked t.at l ≡ Err (BadMark t.at) → report t l ≡ Err (BadMark t.at)
+  ends_mark = ends_fault (BadMark t.at)
 
-pub ends_empty : (t : Total) → report t [] ≡ says.Totals t.records t.frames t.inside t.other
-ends_empty t =
-    report_last t [] (λ n w. unlike (sym (peek_empty t.at) ∙ w) (λ h. omega (arith, h))) ∙ ap (go_on report t []) (peek_empty t.at)
+  pub ends_long : peeked t.at l ≡ Err TooLong → report t l ≡ Err TooLong
+  ends_long = ends_fault TooLong
 
-pub ends_cut : (t : Total) (l : List ℕ) → 0 < length l → ¬ peeked t.at l ≡ BadMark → ¬ peeked t.at l ≡ TooLong → ((n : ℕ) → ¬ peeked t.at l ≡ Whole n)
-    → report t l ≡ says.BadRecord t.at
-ends_cut t [] a m o w = absurd (omega arith)
-ends_cut t (x ∷ l) a m o w = report_last t (x ∷ l) w ∙ by_peek (peeked t.at (x ∷ l)) m o w
-  where
-    by_peek : (p : Peek) → ¬ p ≡ BadMark → ¬ p ≡ TooLong → ((n : ℕ) → ¬ p ≡ Whole n) → go_on report t (x ∷ l) p ≡ says.BadRecord t.at
-    by_peek BadMark m o w = absurd (m refl)
-    by_peek BadRecord m o w = refl
-    by_peek TooLong m o w = absurd (o refl)
-    by_peek More m o w = refl
-    by_peek (Whole n) m o w = absurd (w n refl)
+pub ends_empty : (t : Total) → report t [] ≡ Ok t
+ends_empty t = told t [] (Ok None) (peek_empty t.at) (λ h. omega (arith, h))
+
+some_bytes : (t : Total) (l : List ℕ) → 0 < length l → finished t l ≡ Err (BadRecord t.at)
+some_bytes t [] a = absurd (omega arith)
+some_bytes t (x ∷ l) a = refl
+
+pub ends_few : (t : Total) (l : List ℕ) → 0 < length l → peeked t.at l ≡ Ok None → report t l ≡ Err (BadRecord t.at)
+ends_few t l a e = told t l (Ok None) e (λ h. omega (arith, h)) ∙ some_bytes t l a
+
+pub ends_cut : (t : Total) (l : List ℕ) → 0 < length l → ¬ peeked t.at l ≡ Err (BadMark t.at) → ¬ peeked t.at l ≡ Err TooLong → ((n : ℕ) → ¬ peeked t.at l ≡ Ok (Some n))
+    → report t l ≡ Err (BadRecord t.at)
+ends_cut t l a m o w =
+    peek_cases t.at l
+    (λ _ e. absurd (m e))
+    (λ _ b e. ends_few t l a e)
+    (λ _ b c e. ends_fault t l (BadRecord t.at) e)
+    (λ _ b c d e. ends_few t l a e)
+    (λ _ b c d f e. absurd (o e))
+    (λ _ b c d f e. absurd (w _ e))
 
 pub append_nil : (l : List ℕ) → l ++ [] ≡ l
 append_nil [] = refl
@@ -254,31 +253,35 @@ nothing_behind t l u m e = ap (report t) (sym (append_nil l)) ∙ e [] ∙ ap (r
 
 -- the same of a log off whose front records were taken
 module _ (t : Total) (l : List ℕ) (u : Total) (m : List ℕ) (same : (rest : List ℕ) → report t (l ++ rest) ≡ report u (m ++ rest)) where
-  pub then_mark : peeked u.at m ≡ BadMark → says.BadMark u.at ≡ report t l
-  then_mark e = sym (nothing_behind t l u m same ∙ ends_mark u m e)
+  pub then_fault : (f : Fault) → peeked u.at m ≡ Err f → Err f ≡ report t l
+  then_fault f e = sym (nothing_behind t l u m same ∙ ends_fault u m f e)
 
-  pub then_long : peeked u.at m ≡ TooLong → says.TooLong ≡ report t l
-  then_long e = sym (nothing_behind t l u m same ∙ ends_long u m e)
+  pub then_mark : peeked u.at m ≡ Err (BadMark u.at) → Err (BadMark u.at) ≡ report t l
+  then_mark = then_fault (BadMark u.at)
 
-  pub then_cut : 0 < length m → ¬ peeked u.at m ≡ BadMark → ¬ peeked u.at m ≡ TooLong → ((n : ℕ) → ¬ peeked u.at m ≡ Whole n)
-      → says.BadRecord u.at ≡ report t l
+  pub then_long : peeked u.at m ≡ Err TooLong → Err TooLong ≡ report t l
+  then_long = then_fault TooLong
+
+  pub then_cut : 0 < length m → ¬ peeked u.at m ≡ Err (BadMark u.at) → ¬ peeked u.at m ≡ Err TooLong → ((n : ℕ) → ¬ peeked u.at m ≡ Ok (Some n))
+      → Err (BadRecord u.at) ≡ report t l
   then_cut a b c d = sym (nothing_behind t l u m same ∙ ends_cut u m a b c d)
 
-  pub then_empty : m ≡ [] → says.Totals u.records u.frames u.inside u.other ≡ report t l
+  pub then_few : 0 < length m → peeked u.at m ≡ Ok None → Err (BadRecord u.at) ≡ report t l
+  then_few a e = sym (nothing_behind t l u m same ∙ ends_few u m a e)
+
+  pub then_empty : m ≡ [] → Ok u ≡ report t l
   then_empty e = sym (nothing_behind t l u m same ∙ ap (report u) e ∙ ends_empty u)
 
 -- ---- totals
 
 -- what is counted is no more than the log has bytes
-pub sound_step : (t : Total) (l : List ℕ) (n : ℕ) → Sound t → peeked t.at l ≡ Whole n → Sound (advanced t (take n (drop 4 l)))
-unfolding advanced
+pub sound_step : (t : Total) (l : List ℕ) (n : ℕ) → Sound t → peeked t.at l ≡ Ok (Some n) → Sound (advanced t (take n (drop 4 l)))
 sound_step t l n s w =
     let (a, b, c) = whole_is t.at l n w in
     let k : length (take n (drop 4 l)) ≡ n = length-take-le n (drop 4 l) (let d = length-drop 4 l in omega (arith, d, a)) in
-    let (f, i) = counted_fits (take n (drop 4 l)) in
-    (omega (arith, k, c), omega (arith, s.1), omega (arith, s.2, f, i), omega (arith, s.3, i))
+    sound_more t (take n (drop 4 l)) s (omega (arith, k, c))
 
-pub at_step : (t : Total) (l : List ℕ) (n : ℕ) → peeked t.at l ≡ Whole n → (advanced t (take n (drop 4 l))).at ≡ t.at + (4 + n)
+pub at_step : (t : Total) (l : List ℕ) (n : ℕ) → peeked t.at l ≡ Ok (Some n) → (advanced t (take n (drop 4 l))).at ≡ t.at + (4 + n)
 unfolding advanced
 at_step t l n w =
     let a = whole_fits t.at l n w in

@@ -6,11 +6,9 @@ use mathlib.Core.Path.{◌≡◌, refl, sym, ap, ◌∙◌}
 use mathlib.Core.List.{List, [], ◌∷◌, ◌++◌}
 use Prim.Native.Nat.{ℕ}
 use lib.ListN.{drop}
-use Rattle.logs.specs.Log.{peeked, go_on, report}
+use Rattle.std.specs.Prelude.{Some, None, Ok, Err}
+use Rattle.logs.specs.Log.{Peek, peeked, Report, go_on, report}
 use Rattle.logs.specs.declared.Total.{Total}
-use Rattle.logs.specs.declared.Peek.{Peek}
-use Rattle.logs.specs.declared.Peek.TheVariants.{Whole, BadMark, BadRecord, TooLong, More}
-use Rattle.logs.specs.declared.Report.{Report}
 use Rattle.logs.proofs.LogLaws.{peek_stays, report_last, append_nil}
 
 -- all of the pieces, one behind the other
@@ -21,14 +19,14 @@ joined (p ∷ ps) = p ++ joined ps
 -- the first k bytes of l are whole records, with which t becomes u; what is left begins with none
 pub record Takes (t : Total) (l : List ℕ) (u : Total) (k : ℕ) : Type 0 where
   pub same : (rest : List ℕ) → report t (l ++ rest) ≡ report u (drop k l ++ rest)
-  pub none : (n : ℕ) → ¬ peeked u.at (drop k l) ≡ Whole n
+  pub none : (n : ℕ) → ¬ peeked u.at (drop k l) ≡ Ok (Some n)
 
 -- a reader with the totals t, for whom l waits from the pieces before: it ends with the report at the last piece, or where it need not read on
 pub data Fed : Total → List ℕ → List (List ℕ) → Report → Type 0 where
   ended : (t : Total) (l : List ℕ) → Fed t l [] (report t l)
   took : (t : Total) (l p : List ℕ) (ps : List (List ℕ)) (u : Total) (k : ℕ) (r : Report) → Takes t (l ++ p) u k
       → Fed u (drop k (l ++ p)) ps r → Fed t l (p ∷ ps) r
-  stopped : (t : Total) (l p : List ℕ) (ps : List (List ℕ)) (u : Total) (k : ℕ) → Takes t (l ++ p) u k → ¬ peeked u.at (drop k (l ++ p)) ≡ More
+  stopped : (t : Total) (l p : List ℕ) (ps : List (List ℕ)) (u : Total) (k : ℕ) → Takes t (l ++ p) u k → ¬ peeked u.at (drop k (l ++ p)) ≡ Ok None
       → Fed t l (p ∷ ps) (report u (drop k (l ++ p)))
 
 append_assoc : (a b c : List ℕ) → (a ++ b) ++ c ≡ a ++ (b ++ c)
@@ -36,14 +34,12 @@ append_assoc [] b c = refl
 append_assoc (x ∷ a) b c = ap (λ m. x ∷ m) (append_assoc a b c)
 
 -- a fault is final
-same_fault : (t : Total) (l m : List ℕ) (p : Peek) → ((n : ℕ) → ¬ p ≡ Whole n) → ¬ p ≡ More → go_on report t l p ≡ go_on report t m p
-same_fault t l m BadMark w o = refl
-same_fault t l m BadRecord w o = refl
-same_fault t l m TooLong w o = refl
-same_fault t l m More w o = absurd (o refl)
-same_fault t l m (Whole n) w o = absurd (w n refl)
+same_fault : (t : Total) (l m : List ℕ) (p : Peek) → ((n : ℕ) → ¬ p ≡ Ok (Some n)) → ¬ p ≡ Ok None → go_on report t l p ≡ go_on report t m p
+same_fault t l m (Err f) w o = refl
+same_fault t l m (Ok None) w o = absurd (o refl)
+same_fault t l m (Ok (Some n)) w o = absurd (w n refl)
 
-pub final : (t : Total) (l r : List ℕ) → ((n : ℕ) → ¬ peeked t.at l ≡ Whole n) → ¬ peeked t.at l ≡ More → report t (l ++ r) ≡ report t l
+pub final : (t : Total) (l r : List ℕ) → ((n : ℕ) → ¬ peeked t.at l ≡ Ok (Some n)) → ¬ peeked t.at l ≡ Ok None → report t (l ++ r) ≡ report t l
 final t l r w o =
     ⊎_elim (λ e. absurd (o e))
     (λ e. report_last t (l ++ r) (λ n h. w n (sym e ∙ h)) ∙ ap (go_on report t (l ++ r)) e ∙ same_fault t (l ++ r) l (peeked t.at l) w o ∙ sym (report_last t l w))

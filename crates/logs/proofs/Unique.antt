@@ -3,21 +3,21 @@
 use mathlib.Core.Path.{◌≡◌, refl, sym, ap, ◌∙◌}
 use Rattle.modbus.proofs.Unique.{Unique}
 use Rattle.logs.specs.Search.{Seen, none, stood, paper}
-use Rattle.logs.specs.declared.search.Found.{Found}
-use Rattle.logs.specs.declared.search.Found.TheVariants.{At, Nothing}
+use Rattle.std.specs.Prelude.{Option, Some, None}
+use Rattle.logs.specs.declared.search.Frame.{Frame}
 use Rattle.logs.proofs.look.Kinds as look-kinds
 use Rattle.logs.proofs.look.Reads as look-reads
 use Rattle.logs.proofs.search.first_frame.Kinds as first-frame-kinds
 use Rattle.logs.proofs.search.first_frame.Reads as first-frame-reads
 
 -- the way back from what is seen
-abbrev found : Seen → Found
-found none = Nothing
-found (stood s n) = At s n
+abbrev found : Seen → Option Frame
+found none = None
+found (stood s n) = Some (record { start = s; len = n })
 
-back : (x : Found) → found (paper x) ≡ x
-back (At s n) = refl
-back Nothing = refl
+back : (x : Option Frame) → found (paper x) ≡ x
+back (Some f) = refl
+back None = refl
 
 pub look : Unique 1 look-kinds.ps look-kinds.r look-reads.Post
 look κs a x y u v p q = (p ∙ sym q, refl)

@@ -1,15 +1,13 @@
 -- A log of RTU traffic (document 02, 2026-12): records of a mark, a length and so many bytes, and what is counted over them.
 -- Assumes nothing.
-use Rattle.std.specs.Prelude.{◌⊎◌, ◌≡◌, List, [], ◌∷◌, ℕ, zero, suc, ◌+◌, ◌-◌, ◌≤◌, length, take, drop, get_or}
+use Rattle.std.specs.Prelude.{◌⊎◌, ◌≡◌, List, [], ◌∷◌, ℕ, zero, suc, ◌+◌, ◌-◌, ◌≤◌, length, take, drop, get_or, Option, Some, None, Result, Ok, Err}
 use Rattle.modbus.specs.Step.{Step, stop, go, ◌>>◌, need, ◌≟◌, ◌≤?◌, ◌and?◌, ◌or?◌}
 use Rattle.modbus.specs.Bytes.{word_at}
 use Rattle.logs.specs.Search.{Seen, none, stood, first_in}
 use Rattle.logs.specs.declared.Total.{Total}
 use Rattle.logs.specs.declared.Counted.{Counted}
-use Rattle.logs.specs.declared.Peek.{Peek}
-use Rattle.logs.specs.declared.Peek.TheVariants.{BadMark, BadRecord, TooLong, More, Whole}
-use Rattle.logs.specs.declared.Report.{Report}
-use Rattle.logs.specs.declared.Report.TheVariants as says
+use Rattle.logs.specs.declared.Fault.{Fault}
+use Rattle.logs.specs.declared.Fault.TheVariants.{BadMark, BadRecord, TooLong}
 
 -- ---- the frames of a record
 
@@ -45,19 +43,23 @@ Marked l = ((length l ≤ 0) ⊎ (get_or l 0 0 ≡ 0x4D)) × ((length l ≤ 1) �
 abbrev pub marked? : (l : List ℕ) → Dec (Marked l)
 marked? l = ((length l ≤? 0) or? (get_or l 0 0 ≟ 0x4D)) and? ((length l ≤? 1) or? (get_or l 1 0 ≟ 0x42))
 
+-- what is said of a front: a fault, how many bytes the whole record there has, or nothing yet
+abbrev pub Peek : Type 0
+Peek = Result (Option ℕ) Fault
+
 -- the front of a log from an offset on, of which more may come: the first fault, or how many bytes the record has
 unfoldable pub weighed : ℕ → List ℕ → Step Peek ℕ
 weighed offset l = do
-  need (marked? l) BadMark
-  need (4 ≤? length l) More
-  need (word_at l 2 ≤? 4096) BadRecord
-  need (4 + word_at l 2 ≤? length l) More
-  need (offset + (4 + word_at l 2) ≤? 4294967295) TooLong
+  need (marked? l) (Err (BadMark offset))
+  need (4 ≤? length l) (Ok None)
+  need (word_at l 2 ≤? 4096) (Err (BadRecord offset))
+  need (4 + word_at l 2 ≤? length l) (Ok None)
+  need (offset + (4 + word_at l 2) ≤? 4294967295) (Err TooLong)
   go (word_at l 2)
 
 abbrev pub seen_as : Step Peek ℕ → Peek
 seen_as (stop p) = p
-seen_as (go n) = Whole n
+seen_as (go n) = Ok (Some n)
 
 unfoldable pub peeked : ℕ → List ℕ → Peek
 peeked offset l = seen_as (weighed offset l)
@@ -82,17 +84,19 @@ start = record { at = 0; records = 0; frames = 0; inside = 0; other = 0 }
 abbrev pub Sound : Total → Type 0
 Sound t = (t.at ≤ 4294967295) × (t.records ≤ t.at) × (t.frames ≤ t.at) × (t.inside + t.other ≤ t.at)
 
+-- what a log comes to: the totals, or its first fault
+abbrev pub Report : Type 0
+Report = Result Total Fault
+
 -- the log has ended, and this is left of it
 abbrev pub finished : Total → List ℕ → Report
-finished t [] = says.Totals t.records t.frames t.inside t.other
-finished t (x ∷ l) = says.BadRecord t.at
+finished t [] = Ok t
+finished t (x ∷ l) = Err (BadRecord t.at)
 
 abbrev pub go_on : (Total → List ℕ → Report) → Total → List ℕ → Peek → Report
-go_on next t l BadMark = says.BadMark t.at
-go_on next t l BadRecord = says.BadRecord t.at
-go_on next t l TooLong = says.TooLong
-go_on next t l More = finished t l
-go_on next t l (Whole n) = next (advanced t (take n (drop 4 l))) (drop (4 + n) l)
+go_on next t l (Err f) = Err f
+go_on next t l (Ok None) = finished t l
+go_on next t l (Ok (Some n)) = next (advanced t (take n (drop 4 l))) (drop (4 + n) l)
 
 unfoldable pub tally : ℕ → Total → List ℕ → Report
 tally zero t l = finished t l

@@ -1,9 +1,7 @@
 -- A log as its records (document 02, 2026-12): "the mark 4D 42, a length of 0 to 4096 in two bytes, high first, and that many bytes".
 -- Assumes nothing.
-use Rattle.std.specs.Prelude.{List, [], ◌∷◌, ◌++◌, ℕ, ◌+◌, ◌-◌, ◌/◌, ◌%◌, ◌≤◌, length}
-use Rattle.logs.specs.Log.{counted_in}
-use Rattle.logs.specs.declared.Report.{Report}
-use Rattle.logs.specs.declared.Report.TheVariants as says
+use Rattle.std.specs.Prelude.{List, [], ◌∷◌, ◌++◌, ℕ, ◌+◌, ◌-◌, ◌/◌, ◌%◌, ◌≤◌, length, Ok}
+use Rattle.logs.specs.Log.{counted_in, Report}
 
 abbrev pub recorded : List ℕ → List ℕ
 recorded p = 0x4D ∷ 0x42 ∷ length p / 256 ∷ length p % 256 ∷ p
@@ -20,7 +18,12 @@ unfoldable pub over : (List ℕ → ℕ) → List (List ℕ) → ℕ
 over f [] = 0
 over f (p ∷ ps) = f p + over f ps
 
--- the four totals, each as the sum of what it counts in a record
+-- the four totals, each as the sum of what it counts in a record, at the end of the log
 abbrev pub totals : List (List ℕ) → Report
-totals ps =
-    says.Totals (over (λ p. 1) ps) (over (λ p. (counted_in p).frames) ps) (over (λ p. (counted_in p).inside) ps) (over (λ p. length p - (counted_in p).inside) ps)
+totals ps = Ok (record {
+  at = length (logged ps);
+  records = over (λ p. 1) ps;
+  frames = over (λ p. (counted_in p).frames) ps;
+  inside = over (λ p. (counted_in p).inside) ps;
+  other = over (λ p. length p - (counted_in p).inside) ps;
+})

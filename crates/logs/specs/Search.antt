@@ -1,11 +1,10 @@
 -- The first frame of a record (request 2026-12): starts rising, at each start lengths 4 to 256 rising, taken when the last two bytes are the
 -- CRC of the rest.
 -- Assumes nothing.
-use Rattle.std.specs.Prelude.{◌≡◌, List, ℕ, zero, suc, ◌+◌, ◌-◌, ◌/◌, ◌%◌, min, length, take, drop, get_or}
+use Rattle.std.specs.Prelude.{◌≡◌, List, ℕ, zero, suc, ◌+◌, ◌-◌, ◌/◌, ◌%◌, min, length, take, drop, get_or, Option, Some, None}
 use Rattle.modbus.specs.Step.{choose, ◌≟◌, ◌and?◌}
 use Rattle.modbus.specs.Check.{crc}
-use Rattle.logs.specs.declared.search.Found.{Found}
-use Rattle.logs.specs.declared.search.Found.TheVariants.{At, Nothing}
+use Rattle.logs.specs.declared.search.Frame.{Frame}
 
 -- the two bytes before e are this CRC, low byte first
 abbrev pub Ends : List ℕ → ℕ → ℕ → Type 0
@@ -42,6 +41,6 @@ starts l (suc k) s = lengths l s (longest (length l - s) - 3) 4 (starts l k (suc
 unfoldable pub first_in : List ℕ → ℕ → Seen
 first_in l s = starts l (length l - 3 - s) s
 
-abbrev pub paper : Found → Seen
-paper (At s n) = stood s n
-paper Nothing = none
+abbrev pub paper : Option Frame → Seen
+paper (Some f) = stood f.start f.len
+paper None = none

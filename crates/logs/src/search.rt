@@ -1,16 +1,15 @@
 // The first frame in the bytes of a record.
-ghost use Rattle.std.specs.Prelude.{true, false, ◌≡◌, ◌+◌, ◌-◌, ◌≤◌, length, take, drop};
+ghost use Rattle.std.specs.Prelude.{◌≡◌, ◌↔◌, IsTrue, ◌+◌, ◌-◌, ◌≤◌, length, take, drop};
 ghost use Rattle.modbus.specs.Check.{crc};
-ghost use Rattle.modbus.specs.Step.{choose};
-ghost use Rattle.logs.specs.Search.{first_in, paper, ends?};
+ghost use Rattle.logs.specs.Search.{first_in, paper, Ends};
 
 use checks::crc_byte;
-use octets::least;
 
+// Where a frame stands in a record, and how many bytes it has.
 #[derive(Clone, Copy)]
-pub enum Found {
-    At(usize, usize),
-    Nothing,
+pub struct Frame {
+    pub start: usize,
+    pub len: usize,
 }
 
 // The register after the first two bytes from `start` on.
@@ -24,46 +23,26 @@ fn opening(record: &[u8], start: usize) -> u32
 // Whether the two bytes before `end` are this CRC, low byte first.
 fn ends(record: &[u8], end: usize, register: u32) -> bool
     requires { (2 ≤ end) × (end ≤ length «record».now) }
-    ensures { result ≡ choose (ends? «record».now end register) true false }
+    ensures { IsTrue result ↔ Ends «record».now end register }
 {
-    if record[end - 2] as u32 != register % 256 {
-        return false;
-    }
-    if record[end - 1] as u32 != register / 256 {
-        return false;
-    }
-    true
+    record[end - 2] as u32 == register % 256 && record[end - 1] as u32 == register / 256
 }
 
-// How many starts there are: a frame has at least four bytes.
-fn last_start(len: usize) -> usize
-    ensures { result ≡ len - 3 }
-{
-    if len < 3 {
-        return 0;
-    }
-    len - 3
-}
-
-pub fn first_frame(record: &[u8], from: usize) -> Found
+// A frame has at least four bytes. The two loops with the outer left by label are the form in which the search is asked for.
+pub fn first_frame(record: &[u8], from: usize) -> Option<Frame>
     ensures { paper result ≡ first_in «record».now from }
 {
-    let mut found = Found::Nothing;
-    let last = last_start(record.len());
-    let mut start = from;
-    'starts: while start < last {
-        let most = least(256, record.len() - start);
+    let mut found = None;
+    'starts: for start in from..record.len().saturating_sub(3) {
+        let most = usize::min(256, record.len() - start);
         let mut register = opening(record, start);
-        let mut n = 4;
-        while n <= most {
+        for n in 4..most + 1 {
             if ends(record, start + n, register) {
-                found = Found::At(start, n);
+                found = Some(Frame { start, len: n });
                 break 'starts;
             }
             register = crc_byte(register, record[start + n - 2]);
-            n += 1;
         }
-        start += 1;
     }
     found
 }

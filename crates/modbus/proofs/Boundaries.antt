@@ -7,19 +7,14 @@ use mathlib.Core.List.{List, [], ◌∷◌, map}
 use Prim.Native.Nat.{ℕ}
 use mathlib.Core.Logic.Dec
 use native.Mathlib.Decide.{dec_le}
+use Rattle.std.specs.Prelude.{Ok, Err}
 use Rattle.modbus.specs.Step.{◌>>=◌, ◌>>◌, need, choose}
 use Rattle.modbus.specs.Ported.{code_of, all_ported}
-use Rattle.modbus.specs.Paper.{number, transport, told, told_kind, byte_paper, size_paper, word_paper, bit_paper, done_paper, hex_paper, proto_paper, proto_asked}
+use Rattle.modbus.specs.Paper.{number, transport, told, told_kind, paper, bit_paper, done_paper, hex_paper, proto_paper, proto_asked}
 use Rattle.modbus.specs.Hex.{kinded, digit, character}
+use Rattle.modbus.specs.declared.Digit.TheVariants.{Number, Capital, Small}
 use Rattle.modbus.specs.declared.ErrorKind.TheVariants.{OOB, OOBContext, FrameBroken, FrameCRCError, IllegalDataValue, ReadCallOnWriteFrame, WriteCallOnReadFrame}
 use Rattle.modbus.specs.declared.ModbusProto.TheVariants.{Rtu, Ascii, TcpUdp}
-use Rattle.modbus.specs.declared.ByteAnswer.TheVariants as byte
-use Rattle.modbus.specs.declared.SizeAnswer.TheVariants as size
-use Rattle.modbus.specs.declared.WordAnswer.TheVariants as word
-use Rattle.modbus.specs.declared.BitAnswer.TheVariants as bit
-use Rattle.modbus.specs.declared.DoneAnswer.TheVariants as done
-use Rattle.modbus.specs.declared.HexAnswer.TheVariants as hex
-use Rattle.modbus.specs.declared.ProtoAnswer.TheVariants as proto
 
 pub kinds :
     map number (OOB ∷ OOBContext ∷ FrameBroken ∷ FrameCRCError ∷ IllegalDataValue ∷ ReadCallOnWriteFrame ∷ WriteCallOnReadFrame ∷ [])
@@ -29,11 +24,11 @@ kinds = refl
 -- a value is told by 0 and itself, a refusal by its number and 0
 pub answers :
     ◌≡◌ {A = List ((ℕ × ℕ) × (ℕ × ℕ))}
-    ((byte_paper (byte.Value 7), byte_paper (byte.Refused OOB))
-    ∷ (size_paper (size.Value 300), size_paper (size.Refused FrameBroken))
-    ∷ (word_paper (word.Value 65535), word_paper (word.Refused OOBContext))
-    ∷ (bit_paper (bit.Value true), bit_paper (bit.Value false))
-    ∷ (done_paper done.Done, done_paper (done.Refused WriteCallOnReadFrame))
+    ((paper (Ok 7), paper (Err OOB))
+    ∷ (paper (Ok 300), paper (Err FrameBroken))
+    ∷ (paper (Ok 65535), paper (Err OOBContext))
+    ∷ (bit_paper (Ok true), bit_paper (Ok false))
+    ∷ (done_paper (Ok tt), done_paper (Err WriteCallOnReadFrame))
     ∷ [])
     (((0, 7), (21, 0)) ∷ ((0, 300), (23, 0)) ∷ ((0, 65535), (22, 0)) ∷ ((0, 1), (0, 0)) ∷ ((0, 0), (27, 0)) ∷ [])
 answers = refl
@@ -43,7 +38,7 @@ transports = refl
 
 -- a transport's number, and above 2 BadSetup, which is none of the kinds
 pub asked :
-    ◌≡◌ {A = List (ℕ × ℕ)} (proto_asked 0 ∷ proto_asked 1 ∷ proto_asked 2 ∷ proto_asked 3 ∷ proto_paper proto.BadSetup ∷ [])
+    ◌≡◌ {A = List (ℕ × ℕ)} (proto_asked 0 ∷ proto_asked 1 ∷ proto_asked 2 ∷ proto_asked 3 ∷ proto_paper (Err (record {})) ∷ [])
     ((0, 0) ∷ (0, 1) ∷ (0, 2) ∷ (10, 0) ∷ (10, 0) ∷ [])
 unfolding dec_le choose
 asked = refl
@@ -60,7 +55,7 @@ digits = refl
 -- a digit is told with its kind: 0 a number, 1 a capital, 2 a small letter
 pub hexes :
     ◌≡◌ {A = List (ℕ × ℕ × ℕ)}
-    (hex_paper (hex.Number 9) ∷ hex_paper (hex.Capital 10) ∷ hex_paper (hex.Small 11) ∷ hex_paper (hex.Refused FrameBroken) ∷ [])
+    (hex_paper (Ok (Number 9)) ∷ hex_paper (Ok (Capital 10)) ∷ hex_paper (Ok (Small 11)) ∷ hex_paper (Err FrameBroken) ∷ [])
     ((0, 9, 0) ∷ (0, 10, 1) ∷ (0, 11, 2) ∷ (23, 0, 0) ∷ [])
 hexes = refl
 

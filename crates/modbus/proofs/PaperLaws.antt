@@ -4,32 +4,28 @@ use mathlib.Core.Path.{◌≡◌, refl, sym, ap, ◌∙◌}
 use mathlib.Core.List.{List}
 use Prim.Native.Nat.{ℕ, ◌≤◌}
 use native.Mathlib.Omega.{arith}
+use Rattle.modbus.specs.declared.Digit.{Digit}
+use Rattle.std.specs.Prelude.{IsErrAnd, Result, Ok, Err}
 use Rattle.modbus.specs.Step.{Step, stop, go, ◌≤?◌}
 use Rattle.modbus.specs.Table.{bit, word}
 use Rattle.modbus.specs.Request.{Ask, read, write, writes, masks, swaps, writing}
-use Rattle.modbus.specs.Paper.{number, transport, proto_of, told, told_kind, told_with, byte_paper, hex_paper, size_paper, bad_transport, proto_asked, range_paper, range_told}
+use Rattle.modbus.specs.Paper.{number, transport, proto_of, told, told_kind, told_with, paper, hex_paper, bad_transport, proto_asked, range_paper, range_told}
 use Rattle.modbus.specs.declared.ErrorKind.{ErrorKind}
 use Rattle.modbus.specs.declared.ErrorKind.TheVariants.{OOB, OOBContext, FrameBroken, FrameCRCError, IllegalDataValue, ReadCallOnWriteFrame, WriteCallOnReadFrame}
 use Rattle.modbus.specs.declared.ModbusProto.{ModbusProto}
 use Rattle.modbus.specs.declared.ModbusProto.TheVariants.{Rtu, Ascii, TcpUdp}
-use Rattle.modbus.specs.declared.ByteAnswer.{ByteAnswer}
-use Rattle.modbus.specs.declared.ByteAnswer.TheVariants as byte
-use Rattle.modbus.specs.declared.HexAnswer.{HexAnswer}
-use Rattle.modbus.specs.declared.HexAnswer.TheVariants as hex
-use Rattle.modbus.specs.declared.SizeAnswer.{SizeAnswer}
-use Rattle.modbus.specs.declared.SizeAnswer.TheVariants.{Value, Refused}
 use Rattle.modbus.proofs.StepLaws.{pick_yes, pick_no}
-use Rattle.modbus.proofs.Unique.{size_paper_law}
+use Rattle.modbus.proofs.Unique.{paper_law}
 
-abbrev answer_of : Step ErrorKind ℕ → SizeAnswer
-answer_of (go v) = Value v
-answer_of (stop k) = Refused k
+abbrev answer_of : Step ErrorKind ℕ → Result ℕ ErrorKind
+answer_of (go v) = Ok v
+answer_of (stop k) = Err k
 
-abbrev step_of : SizeAnswer → Step ErrorKind ℕ
-step_of (Value v) = go v
-step_of (Refused k) = stop k
+abbrev step_of : Result ℕ ErrorKind → Step ErrorKind ℕ
+step_of (Ok v) = go v
+step_of (Err k) = stop k
 
-told_answer : (m : Step ErrorKind ℕ) → size_paper (answer_of m) ≡ told m
+told_answer : (m : Step ErrorKind ℕ) → paper (answer_of m) ≡ told m
 told_answer (go v) = refl
 told_answer (stop k) = refl
 
@@ -40,8 +36,13 @@ step_answer (stop k) = refl
 pub told_same : (m n : Step ErrorKind ℕ) → told m ≡ told n → m ≡ n
 told_same m n e =
     sym (step_answer m)
-    ∙ ap step_of (size_paper_law (answer_of m) (answer_of n) (told_answer m ∙ e ∙ sym (told_answer n)))
+    ∙ ap step_of (paper_law (answer_of m) (answer_of n) (told_answer m ∙ e ∙ sym (told_answer n)))
     ∙ step_answer n
+
+-- a refusal that `?` hands on is the callee's
+pub handed_on : {A E : Type 0} {k : E} (r : Result A E) → IsErrAnd r (λ e. e ≡ k) → r ≡ Err k
+handed_on (Ok v) p = absurd p
+handed_on (Err e) p = ap Err p
 
 -- no refusal has the number of a call that was done
 pub number_some : (k : ErrorKind) → number k ≡ 0 → ⊥
@@ -54,19 +55,19 @@ number_some ReadCallOnWriteFrame e = omega arith
 number_some WriteCallOnReadFrame e = omega arith
 
 -- what a definition came to, from what the code answered
-pub byte_value : (r : ByteAnswer) (m : Step ErrorKind ℕ) (v : ℕ) → byte_paper r ≡ told m → r ≡ byte.Value v → m ≡ go v
-byte_value r m v e q = told_same m (go v) (sym e ∙ ap byte_paper q)
+pub byte_value : (r : Result ℕ ErrorKind) (m : Step ErrorKind ℕ) (v : ℕ) → paper r ≡ told m → r ≡ Ok v → m ≡ go v
+byte_value r m v e q = told_same m (go v) (sym e ∙ ap paper q)
 
-pub byte_refusal : (r : ByteAnswer) (m : Step ErrorKind ℕ) (k : ErrorKind) → byte_paper r ≡ told m → r ≡ byte.Refused k → m ≡ stop k
-byte_refusal r m k e q = told_same m (stop k) (sym e ∙ ap byte_paper q)
+pub byte_refusal : (r : Result ℕ ErrorKind) (m : Step ErrorKind ℕ) (k : ErrorKind) → paper r ≡ told m → r ≡ Err k → m ≡ stop k
+byte_refusal r m k e q = told_same m (stop k) (sym e ∙ ap paper q)
 
 -- the same of a digit, by the number of its kind
-pub hex_value : (r : HexAnswer) (m : Step ErrorKind (ℕ × ℕ)) (v kind : ℕ) → hex_paper r ≡ told_kind m → hex_paper r ≡ (0, v, kind)
+pub hex_value : (r : Result Digit ErrorKind) (m : Step ErrorKind (ℕ × ℕ)) (v kind : ℕ) → hex_paper r ≡ told_kind m → hex_paper r ≡ (0, v, kind)
     → m ≡ go (v, kind)
 hex_value r (go (w, j)) v kind e q = ap (λ (t : ℕ × ℕ × ℕ). go (t.1, t.2)) (sym e ∙ q)
 hex_value r (stop k) v kind e q = absurd (number_some k (ap (λ (t : ℕ × ℕ × ℕ). t.0) (sym e ∙ q)))
 
-pub hex_refusal : (r : HexAnswer) (m : Step ErrorKind (ℕ × ℕ)) (k : ErrorKind) → hex_paper r ≡ told_kind m → r ≡ hex.Refused k → m ≡ stop k
+pub hex_refusal : (r : Result Digit ErrorKind) (m : Step ErrorKind (ℕ × ℕ)) (k : ErrorKind) → hex_paper r ≡ told_kind m → r ≡ Err k → m ≡ stop k
 hex_refusal r (go (w, j)) k e q = absurd (number_some k (ap (λ (t : ℕ × ℕ × ℕ). t.0) (sym (ap hex_paper q) ∙ e)))
 hex_refusal r (stop j) k e q =
     let p = told_same (stop j) (stop k) (ap (λ (t : ℕ × ℕ × ℕ). (t.0, 0)) (sym e ∙ ap hex_paper q)) in
@@ -74,7 +75,7 @@ hex_refusal r (stop j) k e q =
     ap stop z
 
 -- the same with what a lent buffer then holds
-pub value_with : (l m : List ℕ) (s : Step ErrorKind (ℕ × List ℕ)) (v : ℕ) → (size_paper (Value v), m) ≡ told_with l s
+pub value_with : (l m : List ℕ) (s : Step ErrorKind (ℕ × List ℕ)) (v : ℕ) → (paper (Ok v), m) ≡ told_with l s
     → s ≡ go (v, m)
 value_with l m (go (w, n)) v e = ap (λ (t : (ℕ × ℕ) × List ℕ). go (t.0.1, t.1)) (sym e)
 value_with l m (stop k) v e =
@@ -83,7 +84,7 @@ value_with l m (stop k) v e =
     absurd (omega arith)
 
 pub refusal_with : (l m : List ℕ) (s : Step ErrorKind (ℕ × List ℕ)) (k : ErrorKind)
-    → (size_paper (Refused k), m) ≡ told_with l s → (s ≡ stop k) × (m ≡ l)
+    → (paper (Err k), m) ≡ told_with l s → (s ≡ stop k) × (m ≡ l)
 refusal_with l m (go (w, n)) k e =
     let q = told_same (stop k) (go w) (ap (λ (t : (ℕ × ℕ) × List ℕ). t.0) e) in
     let z : ◌≡◌ {A = ℕ} 0 1 = cc in

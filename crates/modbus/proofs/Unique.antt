@@ -2,47 +2,32 @@
 -- document 01's numbers to the answers, by which it is proved of a contract in those numbers.
 -- Assumes nothing.
 use mathlib.Core.Path.{◌≡◌, refl, sym, ap, ◌∙◌}
-use mathlib.Core.Bool.{true, false, cond}
+use mathlib.Core.Bool.{Bool, true, false, cond}
 use mathlib.Core.List.{List}
 use Prim.Native.Nat.{ℕ}
 use lib.Dec.{eqb}
 use contract.Lifetimes.{Lfts}
 use borrow.Fn.Kinds.{ParamKind, ResultKind, Out, Dens, res_t, ended_of}
 use denote.Triple.Clauses.{Lasts, at_exit}
-use Rattle.modbus.specs.Paper.{number, byte_paper, size_paper, word_paper, bit_paper, done_paper, hex_paper, proto_paper}
+use Rattle.std.proofs.Common.{true≢false}
+use Rattle.std.specs.Prelude.{◌↔◌, IsTrue, Result, Ok, Err, ⊤}
+use Rattle.modbus.specs.Paper.{number, digit_of, paper_by, paper, bit_paper, done_paper, hex_paper, proto_paper}
 use Rattle.modbus.specs.declared.ErrorKind.{ErrorKind}
 use Rattle.modbus.specs.declared.ErrorKind.TheVariants.{OOB, OOBContext, FrameBroken, FrameCRCError, IllegalDataValue, ReadCallOnWriteFrame, WriteCallOnReadFrame}
 use Rattle.modbus.specs.declared.ModbusProto.{ModbusProto}
 use Rattle.modbus.specs.declared.ModbusProto.TheVariants.{Rtu, Ascii, TcpUdp}
 use Rattle.modbus.specs.declared.Answer.{Answer}
-use Rattle.modbus.specs.declared.ByteAnswer.{ByteAnswer}
-use Rattle.modbus.specs.declared.ByteAnswer.TheVariants as byte
-use Rattle.modbus.specs.declared.SizeAnswer.{SizeAnswer}
-use Rattle.modbus.specs.declared.SizeAnswer.TheVariants as size
-use Rattle.modbus.specs.declared.WordAnswer.{WordAnswer}
-use Rattle.modbus.specs.declared.WordAnswer.TheVariants as word
-use Rattle.modbus.specs.declared.BitAnswer.{BitAnswer}
-use Rattle.modbus.specs.declared.BitAnswer.TheVariants as bit
-use Rattle.modbus.specs.declared.DoneAnswer.{DoneAnswer}
-use Rattle.modbus.specs.declared.DoneAnswer.TheVariants as done
-use Rattle.modbus.specs.declared.HexAnswer.{HexAnswer}
-use Rattle.modbus.specs.declared.HexAnswer.TheVariants as hex
-use Rattle.modbus.specs.declared.ProtoAnswer.{ProtoAnswer}
-use Rattle.modbus.specs.declared.ProtoAnswer.TheVariants as proto
-use Rattle.modbus.proofs.kind_number.Kinds as kind-number-kinds
-use Rattle.modbus.proofs.kind_number.Reads as kind-number-reads
-use Rattle.modbus.proofs.byte_answer.Kinds as byte-answer-kinds
-use Rattle.modbus.proofs.byte_answer.Reads as byte-answer-reads
-use Rattle.modbus.proofs.size_answer.Kinds as size-answer-kinds
-use Rattle.modbus.proofs.size_answer.Reads as size-answer-reads
-use Rattle.modbus.proofs.word_answer.Kinds as word-answer-kinds
-use Rattle.modbus.proofs.word_answer.Reads as word-answer-reads
-use Rattle.modbus.proofs.bit_answer.Kinds as bit-answer-kinds
-use Rattle.modbus.proofs.bit_answer.Reads as bit-answer-reads
-use Rattle.modbus.proofs.done_answer.Kinds as done-answer-kinds
-use Rattle.modbus.proofs.done_answer.Reads as done-answer-reads
-use Rattle.modbus.proofs.proto_of.Kinds as proto-of-kinds
-use Rattle.modbus.proofs.proto_of.Reads as proto-of-reads
+use Rattle.modbus.specs.declared.BadSetup.{BadSetup}
+use Rattle.modbus.specs.declared.Digit.{Digit}
+use Rattle.modbus.specs.declared.Digit.TheVariants.{Number, Capital, Small}
+use Rattle.modbus.proofs.U8FromErrorKind.from.Kinds as kind-number-kinds
+use Rattle.modbus.proofs.U8FromErrorKind.from.Reads as kind-number-reads
+use Rattle.modbus.proofs.AnswerFromErrorKind.from.Kinds as refused-answer-kinds
+use Rattle.modbus.proofs.AnswerFromErrorKind.from.Reads as refused-answer-reads
+use Rattle.modbus.proofs.AnswerFromBadSetup.from.Kinds as setup-answer-kinds
+use Rattle.modbus.proofs.AnswerFromBadSetup.from.Reads as setup-answer-reads
+use Rattle.modbus.proofs.ModbusProtoTryFromU8.try_from.Kinds as proto-of-kinds
+use Rattle.modbus.proofs.ModbusProtoTryFromU8.try_from.Reads as proto-of-reads
 
 -- two results and two contents at exit that the `ensures`, as the checker reads it, allows of one choice of arguments are equal
 abbrev pub Unique : (n : ℕ) (ps : List (ParamKind n)) (r : ResultKind n) → Out n ps r → Type 0
@@ -87,82 +72,72 @@ pub refused_back : {A B : Type 0} (value : B → A) (refused : ErrorKind → A) 
     → back value refused (number k, v) ≡ refused k
 refused_back value refused v k = kind_some k _ _ ∙ ap refused (kind_back_law k)
 
-byte_back : (x : ByteAnswer) → back byte.Value byte.Refused (byte_paper x) ≡ x
-byte_back (byte.Value v) = refl
-byte_back (byte.Refused k) = refused_back byte.Value byte.Refused 0 k
+-- of a value that has a way back from its number
+by_value : {A : Type 0} (f : A → ℕ) (g : ℕ → A) → ((v : A) → g (f v) ≡ v)
+    → (x : Result A ErrorKind) → back (λ n. Ok (g n)) Err (paper_by f x) ≡ x
+by_value f g e (Ok v) = ap Ok (e v)
+by_value f g e (Err k) = refused_back (λ n. Ok (g n)) Err 0 k
 
-size_back : (x : SizeAnswer) → back size.Value size.Refused (size_paper x) ≡ x
-size_back (size.Value v) = refl
-size_back (size.Refused k) = refused_back size.Value size.Refused 0 k
+bit_back : (b : Bool) → eqb (digit_of b) 1 ≡ b
+bit_back true = refl
+bit_back false = refl
 
 -- its one refusal is told by the number
-abbrev proto_answer_back : ℕ × ℕ → ProtoAnswer
-proto_answer_back p = cond (eqb p.0 0) (proto.Value (proto_back p.1)) proto.BadSetup
+abbrev proto_answer_back : ℕ × ℕ → Result ModbusProto BadSetup
+proto_answer_back p = cond (eqb p.0 0) (Ok (proto_back p.1)) (Err (record {}))
 
-proto_back_law : (x : ProtoAnswer) → proto_answer_back (proto_paper x) ≡ x
-proto_back_law (proto.Value Rtu) = refl
-proto_back_law (proto.Value Ascii) = refl
-proto_back_law (proto.Value TcpUdp) = refl
-proto_back_law proto.BadSetup = refl
-
-word_back : (x : WordAnswer) → back word.Value word.Refused (word_paper x) ≡ x
-word_back (word.Value v) = refl
-word_back (word.Refused k) = refused_back word.Value word.Refused 0 k
-
-bit_back : (x : BitAnswer) → back (λ n. bit.Value (eqb n 1)) bit.Refused (bit_paper x) ≡ x
-bit_back (bit.Value true) = refl
-bit_back (bit.Value false) = refl
-bit_back (bit.Refused k) = refused_back (λ n. bit.Value (eqb n 1)) bit.Refused 0 k
-
-done_back : (x : DoneAnswer) → back (λ n. done.Done) done.Refused (done_paper x) ≡ x
-done_back done.Done = refl
-done_back (done.Refused k) = refused_back (λ (n : ℕ). done.Done) done.Refused 0 k
+proto_back_law : (x : Result ModbusProto BadSetup) → proto_answer_back (proto_paper x) ≡ x
+proto_back_law (Ok Rtu) = refl
+proto_back_law (Ok Ascii) = refl
+proto_back_law (Ok TcpUdp) = refl
+proto_back_law (Err e) = refl
 
 -- a digit by its kind and value
-abbrev digit_back : ℕ × ℕ → HexAnswer
-digit_back p = cond (eqb p.1 0) (hex.Number p.0) (cond (eqb p.1 1) (hex.Capital p.0) (hex.Small p.0))
+abbrev digit_back : ℕ × ℕ → Result Digit ErrorKind
+digit_back p = cond (eqb p.1 0) (Ok (Number p.0)) (cond (eqb p.1 1) (Ok (Capital p.0)) (Ok (Small p.0)))
 
-abbrev hex_back : ℕ × ℕ × ℕ → HexAnswer
-hex_back p = back digit_back hex.Refused (p.0, (p.1, p.2))
+abbrev hex_back : ℕ × ℕ × ℕ → Result Digit ErrorKind
+hex_back p = back digit_back Err (p.0, (p.1, p.2))
 
-hex_back_law : (x : HexAnswer) → hex_back (hex_paper x) ≡ x
-hex_back_law (hex.Number v) = refl
-hex_back_law (hex.Capital v) = refl
-hex_back_law (hex.Small v) = refl
-hex_back_law (hex.Refused k) = refused_back digit_back hex.Refused (0, 0) k
+hex_back_law : (x : Result Digit ErrorKind) → hex_back (hex_paper x) ≡ x
+hex_back_law (Ok (Number v)) = refl
+hex_back_law (Ok (Capital v)) = refl
+hex_back_law (Ok (Small v)) = refl
+hex_back_law (Err k) = refused_back digit_back Err (0, 0) k
 
 -- what has a way back is told apart by its numbers
 pub by_back : {A N : Type 0} (paper : A → N) (way : N → A) → ((x : A) → way (paper x) ≡ x)
     → (x y : A) → paper x ≡ paper y → x ≡ y
 by_back paper way e x y p = sym (e x) ∙ ap way p ∙ e y
 
-pub byte_paper_law : (x y : ByteAnswer) → byte_paper x ≡ byte_paper y → x ≡ y
-byte_paper_law = by_back byte_paper (back byte.Value byte.Refused) byte_back
+-- a test of a fact has one answer
+pub same_truth : {P : Type 0} {x y : Bool} → IsTrue x ↔ P → IsTrue y ↔ P → x ≡ y
+same_truth {x = true} {y = true} p q = refl
+same_truth {x = false} {y = false} p q = refl
+same_truth {x = true} {y = false} p q = absurd (true≢false (sym (q.1 (p.0 refl))))
+same_truth {x = false} {y = true} p q = absurd (true≢false (sym (p.1 (q.0 refl))))
 
-pub size_paper_law : (x y : SizeAnswer) → size_paper x ≡ size_paper y → x ≡ y
-size_paper_law = by_back size_paper (back size.Value size.Refused) size_back
+pub paper_law : (x y : Result ℕ ErrorKind) → paper x ≡ paper y → x ≡ y
+paper_law = by_back paper (back Ok Err) (by_value (λ n. n) (λ n. n) (λ n. refl))
 
-pub word_paper_law : (x y : WordAnswer) → word_paper x ≡ word_paper y → x ≡ y
-word_paper_law = by_back word_paper (back word.Value word.Refused) word_back
+pub bit_paper_law : (x y : Result Bool ErrorKind) → bit_paper x ≡ bit_paper y → x ≡ y
+bit_paper_law = by_back bit_paper (back (λ n. Ok (eqb n 1)) Err) (by_value digit_of (λ n. eqb n 1) bit_back)
 
-pub bit_paper_law : (x y : BitAnswer) → bit_paper x ≡ bit_paper y → x ≡ y
-bit_paper_law = by_back bit_paper (back (λ n. bit.Value (eqb n 1)) bit.Refused) bit_back
+pub done_paper_law : (x y : Result ⊤ ErrorKind) → done_paper x ≡ done_paper y → x ≡ y
+done_paper_law = by_back done_paper (back (λ n. Ok tt) Err) (by_value (λ done. 0) (λ n. tt) (λ done. refl))
 
-pub done_paper_law : (x y : DoneAnswer) → done_paper x ≡ done_paper y → x ≡ y
-done_paper_law = by_back done_paper (back (λ n. done.Done) done.Refused) done_back
-
-pub hex_paper_law : (x y : HexAnswer) → hex_paper x ≡ hex_paper y → x ≡ y
+pub hex_paper_law : (x y : Result Digit ErrorKind) → hex_paper x ≡ hex_paper y → x ≡ y
 hex_paper_law = by_back hex_paper hex_back hex_back_law
 
 -- an answer without a value is told by its first number
-done_whole : (x : DoneAnswer) → done_paper x ≡ ((done_paper x).0, 0)
-done_whole done.Done = refl
-done_whole (done.Refused k) = refl
+done_whole : (x : Result ⊤ ErrorKind) → done_paper x ≡ ((done_paper x).0, 0)
+done_whole (Ok done) = refl
+done_whole (Err k) = refl
 
-pub done_number : (x y : DoneAnswer) → (done_paper x).0 ≡ (done_paper y).0 → x ≡ y
+pub done_number : (x y : Result ⊤ ErrorKind) → (done_paper x).0 ≡ (done_paper y).0 → x ≡ y
 done_number x y e = done_paper_law x y (done_whole x ∙ ap (λ (n : ℕ). (n, 0)) e ∙ sym (done_whole y))
 
-proto_paper_law : (x y : ProtoAnswer) → proto_paper x ≡ proto_paper y → x ≡ y
+proto_paper_law : (x y : Result ModbusProto BadSetup) → proto_paper x ≡ proto_paper y → x ≡ y
 proto_paper_law = by_back proto_paper proto_answer_back proto_back_law
 
 -- ---- the public functions
@@ -176,17 +151,13 @@ kind_number κs a x y u v p q = (p ∙ sym q, refl)
 pub answer_paper : (x y : Answer) → ◌≡◌ {A = ℕ × ℕ} (x.kind, x.value) (y.kind, y.value) → x ≡ y
 answer_paper x y e = ap (λ (n : ℕ × ℕ). record { value = n.1; kind = n.0 }) e
 
-pub byte_answer : Unique 0 byte-answer-kinds.ps byte-answer-kinds.r byte-answer-reads.Post
-byte_answer κs a x y u v p q = (answer_paper x y (p ∙ sym q), refl)
+pub refused_answer : Unique 0 refused-answer-kinds.ps refused-answer-kinds.r refused-answer-reads.Post
+refused_answer κs a x y u v p q = (answer_paper x y (p ∙ sym q), refl)
 
-pub size_answer : Unique 0 size-answer-kinds.ps size-answer-kinds.r size-answer-reads.Post
-size_answer κs a x y u v p q = (answer_paper x y (p ∙ sym q), refl)
+pub setup_answer : Unique 0 setup-answer-kinds.ps setup-answer-kinds.r setup-answer-reads.Post
+setup_answer κs a x y u v p q = (answer_paper x y (p ∙ sym q), refl)
 
-pub word_answer : Unique 0 word-answer-kinds.ps word-answer-kinds.r word-answer-reads.Post
-word_answer κs a x y u v p q = (answer_paper x y (p ∙ sym q), refl)
-
-pub bit_answer : Unique 0 bit-answer-kinds.ps bit-answer-kinds.r bit-answer-reads.Post
-bit_answer κs a x y u v p q = (answer_paper x y (p ∙ sym q), refl)
-
-pub done_answer : Unique 0 done-answer-kinds.ps done-answer-kinds.r done-answer-reads.Post
-done_answer κs a x y u v p q = (answer_paper x y (p ∙ sym q), refl)
+-- of an answer's value, whatever its type
+pub called_answer : {A : Type 0} (f : A → ℕ) (r : Result A ErrorKind) (x y : Answer)
+    → ◌≡◌ {A = ℕ × ℕ} (x.kind, x.value) (paper_by f r) → ◌≡◌ {A = ℕ × ℕ} (y.kind, y.value) (paper_by f r) → x ≡ y
+called_answer f r x y p q = answer_paper x y (p ∙ sym q)

@@ -1,7 +1,7 @@
 -- Document 01's numbers: the kind of each refusal, and every answer as a kind and a value, where kind 0 says that the
 -- value holds and a refusal's value is 0.
 -- Assumes nothing.
-use Rattle.std.specs.Prelude.{Bool, true, false, List, [], ◌∷◌, ℕ, zero, suc}
+use Rattle.std.specs.Prelude.{Bool, true, false, List, [], ◌∷◌, ℕ, zero, suc, Result, Ok, Err, ⊤}
 use Rattle.modbus.specs.Step.{Step, stop, go, choose, ◌≤?◌}
 use Rattle.modbus.specs.Table.{Kind, bit, word, Range}
 use Rattle.modbus.specs.Request.{reads, code, tab_of}
@@ -9,22 +9,11 @@ use Rattle.modbus.specs.declared.ErrorKind.{ErrorKind}
 use Rattle.modbus.specs.declared.ErrorKind.TheVariants.{OOB, OOBContext, FrameBroken, FrameCRCError, IllegalDataValue, ReadCallOnWriteFrame, WriteCallOnReadFrame}
 use Rattle.modbus.specs.declared.ModbusProto.{ModbusProto}
 use Rattle.modbus.specs.declared.ModbusProto.TheVariants.{Rtu, Ascii, TcpUdp}
+use Rattle.modbus.specs.declared.BadSetup.{BadSetup}
 use Rattle.modbus.specs.declared.CellKind.{CellKind}
 use Rattle.modbus.specs.declared.CellKind.TheVariants.{Bits, Words}
-use Rattle.modbus.specs.declared.ByteAnswer.{ByteAnswer}
-use Rattle.modbus.specs.declared.ByteAnswer.TheVariants as byte
-use Rattle.modbus.specs.declared.SizeAnswer.{SizeAnswer}
-use Rattle.modbus.specs.declared.SizeAnswer.TheVariants as size
-use Rattle.modbus.specs.declared.WordAnswer.{WordAnswer}
-use Rattle.modbus.specs.declared.WordAnswer.TheVariants as word
-use Rattle.modbus.specs.declared.BitAnswer.{BitAnswer}
-use Rattle.modbus.specs.declared.BitAnswer.TheVariants as bit
-use Rattle.modbus.specs.declared.DoneAnswer.{DoneAnswer}
-use Rattle.modbus.specs.declared.DoneAnswer.TheVariants as done
-use Rattle.modbus.specs.declared.HexAnswer.{HexAnswer}
-use Rattle.modbus.specs.declared.HexAnswer.TheVariants as hex
-use Rattle.modbus.specs.declared.ProtoAnswer.{ProtoAnswer}
-use Rattle.modbus.specs.declared.ProtoAnswer.TheVariants as proto
+use Rattle.modbus.specs.declared.Digit.{Digit}
+use Rattle.modbus.specs.declared.Digit.TheVariants.{Number, Capital, Small}
 
 abbrev pub number : ErrorKind → ℕ
 number OOB = 21
@@ -55,51 +44,44 @@ abbrev pub told : Step ErrorKind ℕ → ℕ × ℕ
 told (go v) = (0, v)
 told (stop k) = (number k, 0)
 
--- what the code answers, in numbers
-abbrev pub byte_paper : ByteAnswer → ℕ × ℕ
-byte_paper (byte.Value v) = (0, v)
-byte_paper (byte.Refused k) = (number k, 0)
+-- what the code answers, in numbers: a value by its number, a refusal by its kind's
+abbrev pub paper_by : {A : Type 0} → (A → ℕ) → Result A ErrorKind → ℕ × ℕ
+paper_by f (Ok v) = (0, f v)
+paper_by f (Err k) = (number k, 0)
 
-abbrev pub size_paper : SizeAnswer → ℕ × ℕ
-size_paper (size.Value v) = (0, v)
-size_paper (size.Refused k) = (number k, 0)
-
-abbrev pub word_paper : WordAnswer → ℕ × ℕ
-word_paper (word.Value v) = (0, v)
-word_paper (word.Refused k) = (number k, 0)
+abbrev pub paper : Result ℕ ErrorKind → ℕ × ℕ
+paper = paper_by (λ n. n)
 
 -- a bit is 0 or 1
 abbrev pub digit_of : Bool → ℕ
 digit_of true = 1
 digit_of false = 0
 
-abbrev pub bit_paper : BitAnswer → ℕ × ℕ
-bit_paper (bit.Value v) = (0, digit_of v)
-bit_paper (bit.Refused k) = (number k, 0)
+abbrev pub bit_paper : Result Bool ErrorKind → ℕ × ℕ
+bit_paper = paper_by digit_of
 
 -- a call that only changes what it was lent has no value
-abbrev pub done_paper : DoneAnswer → ℕ × ℕ
-done_paper done.Done = (0, 0)
-done_paper (done.Refused k) = (number k, 0)
+abbrev pub done_paper : Result ⊤ ErrorKind → ℕ × ℕ
+done_paper = paper_by (λ done. 0)
 
 -- a digit has a kind beside its value: 0 a number, 1 a capital, 2 a small letter
 abbrev pub told_kind : Step ErrorKind (ℕ × ℕ) → ℕ × ℕ × ℕ
 told_kind (go (v, kind)) = (0, v, kind)
 told_kind (stop k) = (number k, 0, 0)
 
-abbrev pub hex_paper : HexAnswer → ℕ × ℕ × ℕ
-hex_paper (hex.Number v) = (0, v, 0)
-hex_paper (hex.Capital v) = (0, v, 1)
-hex_paper (hex.Small v) = (0, v, 2)
-hex_paper (hex.Refused k) = (number k, 0, 0)
+abbrev pub hex_paper : Result Digit ErrorKind → ℕ × ℕ × ℕ
+hex_paper (Ok (Number v)) = (0, v, 0)
+hex_paper (Ok (Capital v)) = (0, v, 1)
+hex_paper (Ok (Small v)) = (0, v, 2)
+hex_paper (Err k) = (number k, 0, 0)
 
 -- BadSetup, which no ported call answers: its number is the driver's outcome
 abbrev pub bad_transport : ℕ × ℕ
 bad_transport = (10, 0)
 
-abbrev pub proto_paper : ProtoAnswer → ℕ × ℕ
-proto_paper (proto.Value p) = (0, transport p)
-proto_paper proto.BadSetup = bad_transport
+abbrev pub proto_paper : Result ModbusProto BadSetup → ℕ × ℕ
+proto_paper (Ok p) = (0, transport p)
+proto_paper (Err e) = bad_transport
 
 -- a setup's transport: 0 RTU, 1 ASCII, 2 TCP, and BadSetup above
 abbrev pub proto_asked : ℕ → ℕ × ℕ

@@ -11,16 +11,13 @@ ghost use Rattle.octets.specs.Put.{byte_at, put_byte};
 pub fn least(m: usize, n: usize) -> usize
     ensures { result ≡ min m n }
 {
-    if m <= n { m } else { n }
+    m.min(n)
 }
 
 pub fn byte(s: &[u8], at: usize) -> u8
     ensures { result ≡ byte_at s.now at }
 {
-    if at < s.len() {
-        return s[at];
-    }
-    0
+    s.get(at).copied().unwrap_or(0)
 }
 
 // The 16-bit number whose high byte stands at `at`.
@@ -30,9 +27,7 @@ pub fn word(s: &[u8], at: usize) -> u16
     if s.len() <= at {
         return 0;
     }
-    let high = byte(s, at) as u16;
-    let low = byte(s, at + 1) as u16;
-    high * 256 + low
+    u16::from_be_bytes([byte(s, at), byte(s, at + 1)])
 }
 
 // Puts one byte, and says whether there was room for it.
@@ -50,10 +45,5 @@ pub fn put_byte(dst: &mut [u8], at: usize, b: u8) -> bool
 pub fn contains(s: &[u8], b: u8) -> bool
     ensures { result ≡ choose (listed? b s.now) true false }
 {
-    for i in 0..s.len() {
-        if s[i] == b {
-            return true;
-        }
-    }
-    false
+    s.contains(&b)
 }

@@ -6,26 +6,22 @@ use Prim.Native.Nat.{ℕ, ◌+◌, ◌≤◌, ◌<◌}
 use native.Mathlib.Omega.{arith}
 use lib.ListN.{length}
 use lib.Seq.{sets}
+use Rattle.std.specs.Prelude.{IsErrAnd, Result, Ok, Err, ⊤}
 use Rattle.modbus.specs.Step.{Step, stop, go, ◌>>=◌}
-use Rattle.modbus.specs.Paper.{number, told_with, done_paper, size_paper}
+use Rattle.modbus.specs.Paper.{number, told_with, paper}
 use Rattle.modbus.specs.declared.ErrorKind.{ErrorKind}
 use Rattle.modbus.specs.declared.ErrorKind.TheVariants.{OOB}
-use Rattle.modbus.specs.declared.DoneAnswer.{DoneAnswer}
-use Rattle.modbus.specs.declared.DoneAnswer.TheVariants as done
-use Rattle.modbus.specs.declared.SizeAnswer.{SizeAnswer}
-use Rattle.modbus.specs.declared.SizeAnswer.TheVariants as size
-use Rattle.modbus.proofs.PaperLaws.{number_some}
+use Rattle.modbus.proofs.PaperLaws.{number_some, handed_on, value_with, refusal_with}
 use Rattle.modbus.proofs.StepLaws.{follow, halt}
 use Rattle.modbus.proofs.Unique.{done_paper_law}
 use Rattle.response.specs.Bounded.{extended}
 use Rattle.response.proofs.BoundedLaws.{extended_fits, extended_none}
-use Rattle.outgoing.specs.Grow.{Response, response, Short, short, growth, grown_paper, refused_at, or_short, add}
-use Rattle.outgoing.specs.declared.Grown.{Grown}
+use Rattle.outgoing.specs.Grow.{Response, response, Short, short, growth, grown_paper, or_short, add}
 
 -- ---- what a call's answer tells
 
 kind_same : (j k : ErrorKind) → number j ≡ number k → j ≡ k
-kind_same j k e = let p = done_paper_law (done.Refused j) (done.Refused k) (ap (λ (n : ℕ). (n, 0)) e) in cc
+kind_same j k e = let p = done_paper_law (Err j) (Err k) (ap (λ (n : ℕ). (n, 0)) e) in cc
 
 grown_same : (m n : Step Short Response) → growth m ≡ growth n → m ≡ n
 grown_same (go r) (go s) e = ap (λ (t : ℕ × Response). go t.1) e
@@ -42,40 +38,47 @@ pub stopped : (m : Step Short Response) (k : ErrorKind) (n : ℕ) (l : List ℕ)
     → m ≡ stop (short k (response n l))
 stopped m k n l e = grown_same m (stop (short k (response n l))) e
 
--- a step that was done goes on with the response as it then stands
-pub goes_on : (m : Step Short Response) (f : Response → Step Short Response) (g : Grown) (l : List ℕ)
-    → grown_paper g l ≡ growth m → g.answer ≡ done.Done → (m >>= f) ≡ f (response g.len l)
-goes_on m f g l e q =
-    follow m f (grew m g.len l (sym e ∙ ap (λ (a : DoneAnswer). ((done_paper a).0, response g.len l)) q))
+-- an answer of the code, with what is left
+module _ (m : Step Short Response) (r : Result ⊤ ErrorKind) (n : ℕ) (l : List ℕ) (e : grown_paper r n l ≡ growth m) where
+  as_said : (a : Result ⊤ ErrorKind) → r ≡ a → growth m ≡ grown_paper a n l
+  as_said a q = sym e ∙ ap (λ (b : Result ⊤ ErrorKind). grown_paper b n l) q
 
--- one that was refused ends the call
-pub ends_there : (m : Step Short Response) (f : Response → Step Short Response) (g : Grown) (l : List ℕ) (k : ErrorKind)
-    → grown_paper g l ≡ growth m → g.answer ≡ done.Refused k → grown_paper g l ≡ growth (m >>= f)
-ends_there m f g l k e q =
-    let p = stopped m k g.len l (sym e ∙ ap (λ (a : DoneAnswer). ((done_paper a).0, response g.len l)) q) in
-    e ∙ ap growth (p ∙ sym (halt m f p))
+  -- a step that was done goes on with the response as it then stands
+  pub was_done : r ≡ Ok tt → m ≡ go (response n l)
+  was_done q = grew m n l (as_said (Ok tt) q)
+
+  pub goes_on : (f : Response → Step Short Response) → r ≡ Ok tt → (m >>= f) ≡ f (response n l)
+  goes_on f q = follow m f (was_done q)
+
+  -- one that was refused ends the call
+  pub was_refused : (k : ErrorKind) → r ≡ Err k → m ≡ stop (short k (response n l))
+  was_refused k q = stopped m k n l (as_said (Err k) q)
+
+  pub ends_there : (f : Response → Step Short Response) (k : ErrorKind) → r ≡ Err k
+      → (m >>= f) ≡ stop (short k (response n l))
+  ends_there f k q = halt m f (was_refused k q)
+
+-- a refusal that `?` hands on, where the definition ends so
+pub handed : (r : Result ⊤ ErrorKind) {m : Step Short Response} {k : ErrorKind} {n : ℕ} {l : List ℕ} → IsErrAnd r (λ e. e ≡ k)
+    → m ≡ stop (short k (response n l)) → grown_paper r n l ≡ growth m
+handed r {m} {k} {n} {l} h e =
+    ap (λ (a : Result ⊤ ErrorKind). grown_paper a n l) (handed_on r h) ∙ sym (ap growth e)
 
 -- ---- bytes added
 
--- an answer on the bounded response, with the length that stands where it refuses
-abbrev after : ℕ → SizeAnswer → Grown
-after len (size.Value n) = record { answer = done.Done; len = n }
-after len (size.Refused k) = refused_at k len
+-- an answer on the bounded response: the length that it gives, or the one that stands where it refuses
+module _ (out d l : List ℕ) (len : ℕ) where
+  pub extend_grown : (n : ℕ) → (paper (Ok n), l) ≡ told_with out (extended out len d)
+      → add d (response len out) ≡ go (response n l)
+  unfolding or_short
+  extend_grown n e = ap (or_short (response len out)) (value_with out l _ n e)
 
-after_grown : (s : SizeAnswer) (m : Step ErrorKind (ℕ × List ℕ)) (out l : List ℕ) (len : ℕ)
-    → (size_paper s, l) ≡ told_with out m → grown_paper (after len s) l ≡ growth (or_short (response len out) m)
-unfolding or_short
-after_grown (size.Value n) (go (v, k)) out l len e = ap (λ (t : (ℕ × ℕ) × List ℕ). (0, response t.0.1 t.1)) e
-after_grown (size.Value n) (stop k) out l len e =
-    absurd (number_some k (sym (ap (λ (t : (ℕ × ℕ) × List ℕ). t.0.0) e)))
-after_grown (size.Refused k) (go (v, j)) out l len e = absurd (number_some k (ap (λ (t : (ℕ × ℕ) × List ℕ). t.0.0) e))
-after_grown (size.Refused k) (stop j) out l len e = ap (λ (t : (ℕ × ℕ) × List ℕ). (t.0.0, response len t.1)) e
-
-pub extend_grown : (s a : SizeAnswer) (out d l : List ℕ) (len : ℕ)
-    → (size_paper s, l) ≡ told_with out (extended out len d) → s ≡ a
-    → grown_paper (after len a) l ≡ growth (add d (response len out))
-extend_grown s a out d l len e q =
-    ap (λ (b : SizeAnswer). grown_paper (after len b) l) (sym q) ∙ after_grown s _ out l len e
+  pub extend_refused : (k : ErrorKind) → (paper (Err k), l) ≡ told_with out (extended out len d)
+      → add d (response len out) ≡ stop (short k (response len l))
+  unfolding or_short
+  extend_refused k e =
+      let p = refusal_with out l _ k e in
+      ap (or_short (response len out)) p.0 ∙ ap (λ (t : List ℕ). stop (short k (response len t))) (sym p.1)
 
 module _ (len : ℕ) (out : List ℕ) where
   pub add_none : (d : List ℕ) → length out < len + length d
@@ -87,6 +90,3 @@ module _ (len : ℕ) (out : List ℕ) where
       → add d (response len out) ≡ go (response (len + length d) (sets out len d))
   unfolding or_short
   add_fits d h = ap (or_short (response len out)) (extended_fits out len d h)
-
-  pub add_nothing : len ≤ length out → add [] (response len out) ≡ go (response len out)
-  add_nothing h = add_fits [] (omega arith) ∙ ap (λ (n : ℕ). go (response n out)) (omega arith)

@@ -6,6 +6,7 @@ use Prim.Native.Nat.{ℕ, ◌+◌, ◌-◌, ◌/◌, ◌%◌, ◌≤◌, ◌<◌
 use native.Mathlib.Omega.{arith}
 use lib.ListN.{length, take, drop}
 use lib.Seq.{sets}
+use Rattle.std.specs.Prelude.{Result, Ok, Err, ⊤}
 use Rattle.modbus.specs.Step.{Step, stop, go, ◌>>◌, need, ◌≤?◌}
 use Rattle.modbus.specs.Check.{crc, lrc}
 use Rattle.modbus.specs.Request.{exception}
@@ -14,12 +15,9 @@ use Rattle.modbus.specs.declared.ErrorKind.{ErrorKind}
 use Rattle.modbus.specs.declared.ErrorKind.TheVariants.{OOB, FrameBroken}
 use Rattle.modbus.specs.declared.ModbusProto.{ModbusProto}
 use Rattle.modbus.specs.declared.ModbusProto.TheVariants.{Rtu, Ascii, TcpUdp}
-use Rattle.modbus.specs.declared.DoneAnswer.{DoneAnswer}
-use Rattle.modbus.specs.declared.DoneAnswer.TheVariants as done
 use Rattle.modbus.proofs.StepLaws.{pass, fail, follow, halt, needed, needed_stop}
-use Rattle.modbus.proofs.PaperLaws.{told_same}
+use Rattle.modbus.proofs.PaperLaws.{number_some, told_same}
 use Rattle.outgoing.specs.Grow.{largest, reached, Response, response, Short, short, growth, grown_paper, add, length_field, most_length, Settable, begun, byte_counted, except, seal}
-use Rattle.outgoing.specs.declared.Grown.{Grown}
 use Rattle.outgoing.proofs.GrowLaws.{add_none, add_fits}
 
 -- what has no room, or a number that does not fit, leaves the response as given
@@ -53,14 +51,14 @@ reaching_goes : (buf : List ℕ) (start n : ℕ) (g : Response) (m : Step Short 
 reaching_goes buf start n g m h i = pass _ _ _ h ∙ pass _ _ _ i
 
 -- what was answered for these bytes
-module _ (r : DoneAnswer) (buf : List ℕ) (start n : ℕ) (e : done_paper r ≡ told (reached buf start n)) where
-  pub reach_done : r ≡ done.Done → (start + n ≤ largest) × (start + n ≤ length buf)
+module _ (r : Result ⊤ ErrorKind) (buf : List ℕ) (start n : ℕ) (e : done_paper r ≡ told (reached buf start n)) where
+  pub reach_done : r ≡ (Ok tt) → (start + n ≤ largest) × (start + n ≤ length buf)
   unfolding reached
   reach_done q =
       let p = told_same (reached buf start n) (go 0) (sym e ∙ ap done_paper q) in
       needed _ _ _ p λ h p₁. needed _ _ _ p₁ λ i p₂. (h, i)
 
-  pub reach_refused : (k : ErrorKind) → r ≡ done.Refused k → (g : Response) (m : Step Short Response)
+  pub reach_refused : (k : ErrorKind) → r ≡ Err k → (g : Response) (m : Step Short Response)
       → reaching buf start n g m ≡ stop (short k g)
   unfolding reached
   reach_refused k q g m =
@@ -94,16 +92,22 @@ module _ (p : ModbusProto) (bytes : ℕ) (buf : List ℕ) (start n len : ℕ) (o
         → begun p bytes buf start n (response len out) ≡ stop (short k (response len out))
     begun_unread k u = led ∙ u _
 
-    -- g and l are what setting the field left; the bytes as the code names them
-    pub begun_on : start + n ≤ largest → start + n ≤ length buf → (g : Grown) (l : List ℕ)
-        → grown_paper g l ≡ growth (add (length_field p bytes) (response len out))
-        → begun p bytes buf start n (response len out)
-        ≡ add (take ((start + n) - start) (drop start buf)) (response g.len l)
-    begun_on i j g l e =
-        let z : (start + n) - start ≡ n = omega arith in
+    -- so setting the field is not refused
+    pub field_fits : (r : Result ⊤ ErrorKind) (n' : ℕ) (l : List ℕ)
+        → grown_paper r n' l ≡ growth (add (length_field p bytes) (response len out)) → (k : ErrorKind) → r ≡ Err k → ⊥
+    field_fits r n' l e k q =
         let f = e ∙ ap growth (add_fits len out (length_field p bytes) h.1) in
-        rw z (led ∙ reaching_goes buf start n _ _ i j
-        ∙ ap (λ (t : ℕ × Response). add (take n (drop start buf)) t.1) (sym f))
+        number_some k (ap (λ (a : Result ⊤ ErrorKind). (done_paper a).0) (sym q) ∙ ap (λ (t : ℕ × Response). t.0) f)
+
+    -- setting the field left n' and l
+    pub begun_on : start + n ≤ largest → start + n ≤ length buf → (n' : ℕ) (l : List ℕ)
+        → add (length_field p bytes) (response len out) ≡ go (response n' l)
+        → begun p bytes buf start n (response len out)
+        ≡ add (take ((start + n) - start) (drop start buf)) (response n' l)
+    unfolding begun
+    begun_on i j n' l e =
+        let z : (start + n) - start ≡ n = omega arith in
+        rw z (pass _ _ _ h.0 ∙ follow _ _ e ∙ reaching_goes buf start n _ _ i j)
 
 -- ---- byte count
 
@@ -149,10 +153,13 @@ module _ (len : ℕ) (out : List ℕ) where
     unfolding seal
     crc_over i = pass _ _ _ h ∙ fail _ _ _ (λ k. omega arith)
 
-    pub crc_adds : len ≤ 255 → (v : ℕ) → v ≡ crc (take len out)
-        → seal Rtu (response len out) ≡ add (v % 256 ∷ v / 256 ∷ []) (response len out)
+    -- a word's two bytes, low byte first, as the library names them
+    pub crc_adds : len ≤ 255 → (v : ℕ) → v < 65536 → v ≡ crc (take len out)
+        → seal Rtu (response len out) ≡ add (v % 256 ∷ v / 256 % 256 ∷ []) (response len out)
     unfolding seal
-    crc_adds i v e = rw e (pass _ _ _ h ∙ pass _ _ _ i)
+    crc_adds i v w e =
+        let z : v / 256 % 256 ≡ v / 256 = omega arith in
+        rw (z, e) (pass _ _ _ h ∙ pass _ _ _ i)
 
     pub lrc_over : 255 < len → seal Ascii (response len out) ≡ as_given len out
     unfolding seal

@@ -2,7 +2,7 @@
 -- is OOB at that point; what came before it stands. An index beyond the frame is FrameBroken, a sum that overflows OOB, and both leave
 -- the response as given (document 01).
 -- Assumes nothing.
-use Rattle.std.specs.Prelude.{List, [], ◌∷◌, ◌++◌, ℕ, ◌+◌, ◌≤◌, length, take, drop}
+use Rattle.std.specs.Prelude.{List, [], ◌∷◌, ◌++◌, ℕ, ◌+◌, ◌≤◌, length, take, drop, Result, ⊤}
 use Rattle.modbus.specs.Step.{Step, stop, go, ◌>>=◌, ◌>>◌, need, ◌≤?◌, ◌and?◌}
 use Rattle.modbus.specs.Bytes.{two}
 use Rattle.modbus.specs.Check.{lrc}
@@ -13,9 +13,7 @@ use Rattle.modbus.specs.declared.ErrorKind.{ErrorKind}
 use Rattle.modbus.specs.declared.ErrorKind.TheVariants.{OOB, FrameBroken}
 use Rattle.modbus.specs.declared.ModbusProto.{ModbusProto}
 use Rattle.modbus.specs.declared.ModbusProto.TheVariants.{Rtu, Ascii, TcpUdp}
-use Rattle.modbus.specs.declared.DoneAnswer.TheVariants.{Refused}
 use Rattle.response.specs.Bounded.{extended}
-use Rattle.outgoing.specs.declared.Grown.{Grown}
 
 -- the largest usize
 abbrev pub largest : ℕ
@@ -49,12 +47,9 @@ abbrev pub growth : Step Short Response → ℕ × Response
 growth (go r) = (0, r)
 growth (stop x) = (number x.why, x.at)
 
--- as the code says it, with the slice afterwards
-abbrev pub grown_paper : Grown → List ℕ → ℕ × Response
-grown_paper g l = ((done_paper g.answer).0, response g.len l)
-
-abbrev pub refused_at : ErrorKind → ℕ → Grown
-refused_at k n = record { answer = Refused k; len = n }
+-- as the code says it, with the length and the slice afterwards
+abbrev pub grown_paper : Result ⊤ ErrorKind → ℕ → List ℕ → ℕ × Response
+grown_paper r n l = ((done_paper r).0, response n l)
 
 -- bytes added at the end, or none and OOB
 unfoldable pub or_short : Response → Step ErrorKind (ℕ × List ℕ) → Step Short Response

@@ -1,56 +1,35 @@
-// What the crate adds to a response, apart from the state of a frame.
+// What the crate adds to a response, apart from the state of a frame. Each call is lent the response's length and makes it that of what then
+// stands: on a refusal too, for what came before it stays.
 #![tactic(auto)]
 
-ghost use Rattle.std.specs.Prelude.{true, false, ◌≡◌, ◌∷◌, ◌≤◌, length};
+ghost use Rattle.std.specs.Prelude.{true, false, ◌≡◌, ◌≤◌, length};
 ghost use Rattle.modbus.specs.Step.{choose};
 ghost use Rattle.modbus.specs.Paper.{told, done_paper};
-ghost use Rattle.modbus.specs.Request.{exception};
 ghost use Rattle.modbus.specs.declared.ModbusProto.TheVariants as proto;
-ghost use Rattle.outgoing.specs.Grow.{reached, growth, grown_paper, refused_at, response, add, length_field, most_length, settable?, begun, byte_counted, head, echo, except, seal};
+ghost use Rattle.outgoing.specs.Grow.{reached, growth, grown_paper, response, add, length_field, most_length, settable?, begun, byte_counted, head, echo, except, seal};
 
 use checks::{calc_crc16, calc_lrc};
-use modbus::{ByteAnswer, DoneAnswer, ErrorKind, ModbusProto, SizeAnswer};
-
-// What a call that adds to a response leaves: its answer, and the response's length.
-#[derive(Clone, Copy)]
-pub struct Grown {
-    pub answer: DoneAnswer,
-    pub len: usize,
-}
+use modbus::{ErrorKind, ModbusProto};
 
 // Whether the frame has n bytes from the start on.
-pub fn reach(buf: &[u8], start: usize, n: usize) -> DoneAnswer
+pub fn reach(buf: &[u8], start: usize, n: usize) -> Result<(), ErrorKind>
     ensures { done_paper result ≡ told (reached buf.now start n) }
 {
     if usize::MAX - n < start {
-        return DoneAnswer::Refused(ErrorKind::OOB);
+        return Err(ErrorKind::OOB);
     }
     if buf.len() < start + n {
-        return DoneAnswer::Refused(ErrorKind::FrameBroken);
+        return Err(ErrorKind::FrameBroken);
     }
-    DoneAnswer::Done
-}
-
-fn short(kind: ErrorKind, len: usize) -> Grown
-    ensures { result ≡ refused_at kind len }
-{
-    Grown {
-        answer: DoneAnswer::Refused(kind),
-        len: len,
-    }
+    Ok(())
 }
 
 // Bytes added to a response.
-fn extend(out: &mut [u8], len: usize, other: &[u8]) -> Grown
-    ensures { grown_paper result out.new ≡ growth (add other.now (response len out.old)) }
+fn extend(out: &mut [u8], len: &mut usize, other: &[u8]) -> Result<(), ErrorKind>
+    ensures { grown_paper result len.new out.new ≡ growth (add other.now (response len.old out.old)) }
 {
-    match response::extend(out, len, other) {
-        SizeAnswer::Refused(k) => short(k, len),
-        SizeAnswer::Value(n) => Grown {
-            answer: DoneAnswer::Done,
-            len: n,
-        },
-    }
+    *len = response::extend(out, *len, other)?;
+    Ok(())
 }
 
 // Whether the length field cannot be set in a slice of `room` bytes.
@@ -61,17 +40,8 @@ fn unsettable(proto: ModbusProto, data_len: usize, room: usize, len: usize) -> b
         return true;
     }
     match proto {
-        ModbusProto::Rtu => false,
-        ModbusProto::Ascii => false,
-        ModbusProto::TcpUdp => {
-            if 65535 < data_len {
-                return true;
-            }
-            if room - len < 2 {
-                return true;
-            }
-            false
-        }
+        ModbusProto::Rtu | ModbusProto::Ascii => false,
+        ModbusProto::TcpUdp => { 65535 < data_len || room - len < 2 }
     }
 }
 
@@ -80,18 +50,14 @@ fn tcp_response_set_data_len(
     proto: ModbusProto,
     data_len: usize,
     out: &mut [u8],
-    len: usize,
-) -> Grown
+    len: &mut usize,
+) -> Result<(), ErrorKind>
     requires { data_len ≤ most_length proto }
-    ensures { grown_paper result out.new ≡ growth (add (length_field proto data_len) (response len out.old)) }
+    ensures { grown_paper result len.new out.new ≡ growth (add (length_field proto data_len) (response len.old out.old)) }
 {
     match proto {
-        ModbusProto::Rtu => extend(out, len, b""),
-        ModbusProto::Ascii => extend(out, len, b""),
-        ModbusProto::TcpUdp => {
-            let field = [(data_len / 256) as u8, (data_len % 256) as u8];
-            extend(out, len, &field)
-        }
+        ModbusProto::Rtu | ModbusProto::Ascii => extend(out, len, b""),
+        ModbusProto::TcpUdp => extend(out, len, &(data_len as u16).to_be_bytes()),
     }
 }
 
@@ -103,21 +69,17 @@ fn begin(
     start: usize,
     n: usize,
     out: &mut [u8],
-    len: usize,
-) -> Grown
-    ensures { grown_paper result out.new ≡ growth (begun proto data_len buf.now start n (response len out.old)) }
+    len: &mut usize,
+) -> Result<(), ErrorKind>
+    ensures { grown_paper result len.new out.new ≡ growth (begun proto data_len buf.now start n (response len.old out.old)) }
 {
-    if unsettable(proto, data_len, out.len(), len) {
-        return short(ErrorKind::OOB, len);
+    if unsettable(proto, data_len, out.len(), *len) {
+        return Err(ErrorKind::OOB);
     }
-    match reach(buf, start, n) {
-        DoneAnswer::Refused(k) => short(k, len),
-        DoneAnswer::Done => {
-            let field = tcp_response_set_data_len(proto, data_len, out, len);
-            let end = start + n;
-            extend(out, field.len, &buf[start..end])
-        }
-    }
+    reach(buf, start, n)?;
+    tcp_response_set_data_len(proto, data_len, out, len)?;
+    let end = start + n;
+    extend(out, len, &buf[start..end])
 }
 
 // A read's response up to its data: unit and function as asked, byte count.
@@ -127,31 +89,32 @@ pub fn head(
     start: usize,
     bytes: u16,
     out: &mut [u8],
-    len: usize,
-) -> Grown
-    ensures { grown_paper result out.new ≡ growth (head proto buf.now start bytes (response len out.old)) }
+    len: &mut usize,
+) -> Result<(), ErrorKind>
+    ensures { grown_paper result len.new out.new ≡ growth (head proto buf.now start bytes (response len.old out.old)) }
 {
-    let b = begin(proto, bytes as usize + 3, buf, start, 2, out, len);
-    let answer = b.answer;
-    match answer {
-        DoneAnswer::Refused(_) => b,
-        DoneAnswer::Done => byte_count(bytes, out, b.len),
-    }
+    begin(proto, bytes as usize + 3, buf, start, 2, out, len)?;
+    byte_count(bytes, out, len)
 }
 
-fn byte_count(bytes: u16, out: &mut [u8], len: usize) -> Grown
-    ensures { grown_paper result out.new ≡ growth (byte_counted bytes (response len out.old)) }
+fn byte_count(bytes: u16, out: &mut [u8], len: &mut usize) -> Result<(), ErrorKind>
+    ensures { grown_paper result len.new out.new ≡ growth (byte_counted bytes (response len.old out.old)) }
 {
     if 255 < bytes {
-        return short(ErrorKind::OOB, len);
+        return Err(ErrorKind::OOB);
     }
-    let byte = [bytes as u8];
-    extend(out, len, &byte)
+    extend(out, len, &[bytes as u8])
 }
 
 // A write's response: the first six bytes as asked.
-pub fn echo(proto: ModbusProto, buf: &[u8], start: usize, out: &mut [u8], len: usize) -> Grown
-    ensures { grown_paper result out.new ≡ growth (echo proto buf.now start (response len out.old)) }
+pub fn echo(
+    proto: ModbusProto,
+    buf: &[u8],
+    start: usize,
+    out: &mut [u8],
+    len: &mut usize,
+) -> Result<(), ErrorKind>
+    ensures { grown_paper result len.new out.new ≡ growth (echo proto buf.now start (response len.old out.old)) }
 {
     begin(proto, 6, buf, start, 6, out, len)
 }
@@ -163,75 +126,51 @@ pub fn except(
     function: u8,
     code: u8,
     out: &mut [u8],
-    len: usize,
-) -> Grown
-    ensures { grown_paper result out.new ≡ growth (except proto unit function code (response len out.old)) }
+    len: &mut usize,
+) -> Result<(), ErrorKind>
+    ensures { grown_paper result len.new out.new ≡ growth (except proto unit function code (response len.old out.old)) }
 {
-    if out.len() < len {
-        return short(ErrorKind::OOB, len);
-    }
-    if 127 < function {
-        return short(ErrorKind::OOB, len);
+    if out.len() < *len || 127 < function {
+        return Err(ErrorKind::OOB);
     }
     match proto {
-        ModbusProto::Rtu => serial_exception(unit, function, code, out, len),
-        ModbusProto::Ascii => serial_exception(unit, function, code, out, len),
-        ModbusProto::TcpUdp => {
-            let bytes = [0u8, 3u8, unit, function + 128, code];
-            extend(out, len, &bytes)
-        }
+        ModbusProto::Rtu | ModbusProto::Ascii => extend(out, len, &[unit, function + 128, code]),
+        ModbusProto::TcpUdp => extend(out, len, &[0, 3, unit, function + 128, code]),
     }
-}
-
-fn serial_exception(unit: u8, function: u8, code: u8, out: &mut [u8], len: usize) -> Grown
-    requires { function ≤ 127 }
-    ensures { grown_paper result out.new ≡ growth (add (unit ∷ exception function code) (response len out.old)) }
-{
-    let bytes = [unit, function + 128, code];
-    extend(out, len, &bytes)
 }
 
 // The check of a serial line.
-pub fn seal(proto: ModbusProto, out: &mut [u8], len: usize) -> Grown
-    ensures { grown_paper result out.new ≡ growth (seal proto (response len out.old)) }
+pub fn seal(proto: ModbusProto, out: &mut [u8], len: &mut usize) -> Result<(), ErrorKind>
+    ensures { grown_paper result len.new out.new ≡ growth (seal proto (response len.old out.old)) }
 {
-    if out.len() < len {
-        return short(ErrorKind::OOB, len);
+    if out.len() < *len {
+        return Err(ErrorKind::OOB);
     }
     match proto {
         ModbusProto::Rtu => add_crc(out, len),
         ModbusProto::Ascii => add_lrc(out, len),
-        ModbusProto::TcpUdp => Grown {
-            answer: DoneAnswer::Done,
-            len: len,
-        },
+        ModbusProto::TcpUdp => Ok(()),
     }
 }
 
-fn add_crc(out: &mut [u8], len: usize) -> Grown
-    requires { len ≤ length out.old }
-    ensures { grown_paper result out.new ≡ growth (seal proto.Rtu (response len out.old)) }
+fn add_crc(out: &mut [u8], len: &mut usize) -> Result<(), ErrorKind>
+    requires { len.old ≤ length out.old }
+    ensures { grown_paper result len.new out.new ≡ growth (seal proto.Rtu (response len.old out.old)) }
 {
-    if 255 < len {
-        return short(ErrorKind::OOB, len);
+    if 255 < *len {
+        return Err(ErrorKind::OOB);
     }
-    let crc = calc_crc16(out, len as u8);
-    let bytes = [(crc % 256) as u8, (crc / 256) as u8];
-    extend(out, len, &bytes)
+    let crc = calc_crc16(out, *len as u8);
+    extend(out, len, &crc.to_le_bytes())
 }
 
-fn add_lrc(out: &mut [u8], len: usize) -> Grown
-    requires { len ≤ length out.old }
-    ensures { grown_paper result out.new ≡ growth (seal proto.Ascii (response len out.old)) }
+fn add_lrc(out: &mut [u8], len: &mut usize) -> Result<(), ErrorKind>
+    requires { len.old ≤ length out.old }
+    ensures { grown_paper result len.new out.new ≡ growth (seal proto.Ascii (response len.old out.old)) }
 {
-    if 255 < len {
-        return short(ErrorKind::OOB, len);
+    if 255 < *len {
+        return Err(ErrorKind::OOB);
     }
-    match calc_lrc(out, len as u8) {
-        ByteAnswer::Refused(k) => short(k, len),
-        ByteAnswer::Value(lrc) => {
-            let byte = [lrc];
-            extend(out, len, &byte)
-        }
-    }
+    let lrc = calc_lrc(out, *len as u8)?;
+    extend(out, len, &[lrc])
 }

@@ -11,63 +11,63 @@ use modbus::Answer;
 pub extern "C" fn probe_push(response: &mut [u8], len: usize, value: u8) -> Answer
     ensures { ((result.kind, result.value), response.new) ≡ told_with response.old (extended response.old len (value ∷ [])) }
 {
-    modbus::size_answer(response::push(response, len, value))
+    Answer::from(response::push(response, len, value))
 }
 
 #[unsafe(no_mangle)]
 pub extern "C" fn probe_extend(response: &mut [u8], len: usize, other: &[u8]) -> Answer
     ensures { ((result.kind, result.value), response.new) ≡ told_with response.old (extended response.old len other.now) }
 {
-    modbus::size_answer(response::extend(response, len, other))
+    Answer::from(response::extend(response, len, other))
 }
 
 #[unsafe(no_mangle)]
 pub extern "C" fn probe_resize(response: &mut [u8], len: usize, new_len: usize, value: u8) -> Answer
     ensures { ((result.kind, result.value), response.new) ≡ told_with response.old (resized response.old len new_len value) }
 {
-    modbus::size_answer(response::resize(response, len, new_len, value))
+    Answer::from(response::resize(response, len, new_len, value))
 }
 
 #[unsafe(no_mangle)]
 pub extern "C" fn probe_cut_end(response: &[u8], len: usize, n: usize) -> Answer
     ensures { (result.kind, result.value) ≡ told (cut response.now len n) }
 {
-    modbus::size_answer(response::cut_end(response, len, n))
+    Answer::from(response::cut_end(response, len, n))
 }
 
 #[unsafe(no_mangle)]
 pub extern "C" fn probe_clear(response: &[u8], len: usize) -> Answer
     ensures { (result.kind, result.value) ≡ told (cut response.now len len) }
 {
-    modbus::size_answer(response::clear(response, len))
+    Answer::from(response::clear(response, len))
 }
 
 #[unsafe(no_mangle)]
 pub extern "C" fn probe_get_coil(table: &[u8], cells: usize, reg: u16) -> Answer
     ensures { (result.kind, result.value) ≡ told (got packed table.now cells reg) }
 {
-    modbus::bit_answer(tables::coils::get_coil(table, cells, reg))
+    Answer::from(tables::coils::get_coil(table, cells, reg))
 }
 
 #[unsafe(no_mangle)]
 pub extern "C" fn probe_set_coil(table: &mut [u8], cells: usize, reg: u16, value: bool) -> Answer
     ensures { ((result.kind, result.value), table.new) ≡ told_with table.old (changed packed table.old cells reg (digit_of value)) }
 {
-    modbus::done_answer(tables::coils::set_coil(table, cells, reg, value))
+    Answer::from(tables::coils::set_coil(table, cells, reg, value))
 }
 
 #[unsafe(no_mangle)]
 pub extern "C" fn probe_get_holding(table: &[u8], cells: usize, reg: u16) -> Answer
     ensures { (result.kind, result.value) ≡ told (got registers table.now cells reg) }
 {
-    modbus::word_answer(tables::registers::get_holding(table, cells, reg))
+    Answer::from(tables::registers::get_holding(table, cells, reg))
 }
 
 #[unsafe(no_mangle)]
 pub extern "C" fn probe_set_holding(table: &mut [u8], cells: usize, reg: u16, value: u16) -> Answer
     ensures { ((result.kind, result.value), table.new) ≡ told_with table.old (changed registers table.old cells reg value) }
 {
-    modbus::done_answer(tables::registers::set_holding(table, cells, reg, value))
+    Answer::from(tables::registers::set_holding(table, cells, reg, value))
 }
 
 #[unsafe(no_mangle)]
@@ -81,7 +81,7 @@ pub extern "C" fn probe_get_coils_as_u8(
 ) -> Answer
     ensures { ((result.kind, result.value), response.new) ≡ told_with response.old (added packed table.now cells reg count response.old len) }
 {
-    modbus::size_answer(tables::coils::get_coils_as_u8(table, cells, reg, count, response, len))
+    Answer::from(tables::coils::get_coils_as_u8(table, cells, reg, count, response, len))
 }
 
 #[unsafe(no_mangle)]
@@ -95,7 +95,7 @@ pub extern "C" fn probe_get_discretes_as_u8(
 ) -> Answer
     ensures { ((result.kind, result.value), response.new) ≡ told_with response.old (added packed table.now cells reg count response.old len) }
 {
-    modbus::size_answer(tables::coils::get_discretes_as_u8(table, cells, reg, count, response, len))
+    Answer::from(tables::coils::get_discretes_as_u8(table, cells, reg, count, response, len))
 }
 
 #[unsafe(no_mangle)]
@@ -109,9 +109,7 @@ pub extern "C" fn probe_get_holdings_as_u8(
 ) -> Answer
     ensures { ((result.kind, result.value), response.new) ≡ told_with response.old (added registers table.now cells reg count response.old len) }
 {
-    modbus::size_answer(tables::registers::get_holdings_as_u8(
-        table, cells, reg, count, response, len,
-    ))
+    Answer::from(tables::registers::get_holdings_as_u8(table, cells, reg, count, response, len))
 }
 
 #[unsafe(no_mangle)]
@@ -125,9 +123,7 @@ pub extern "C" fn probe_get_inputs_as_u8(
 ) -> Answer
     ensures { ((result.kind, result.value), response.new) ≡ told_with response.old (added registers table.now cells reg count response.old len) }
 {
-    modbus::size_answer(tables::registers::get_inputs_as_u8(
-        table, cells, reg, count, response, len,
-    ))
+    Answer::from(tables::registers::get_inputs_as_u8(table, cells, reg, count, response, len))
 }
 
 #[unsafe(no_mangle)]
@@ -140,7 +136,7 @@ pub extern "C" fn probe_set_coils_from_u8(
 ) -> Answer
     ensures { ((result.kind, result.value), table.new) ≡ told_with table.old (stored packed table.old cells reg count values.now) }
 {
-    modbus::done_answer(tables::coils::set_coils_from_u8(table, cells, reg, count, values))
+    Answer::from(tables::coils::set_coils_from_u8(table, cells, reg, count, values))
 }
 
 #[unsafe(no_mangle)]
@@ -152,5 +148,5 @@ pub extern "C" fn probe_set_holdings_from_u8(
 ) -> Answer
     ensures { ((result.kind, result.value), table.new) ≡ told_with table.old (stored_whole table.old cells reg values.now) }
 {
-    modbus::done_answer(tables::registers::set_holdings_from_u8(table, cells, reg, values))
+    Answer::from(tables::registers::set_holdings_from_u8(table, cells, reg, values))
 }

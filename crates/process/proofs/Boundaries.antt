@@ -18,8 +18,7 @@ use Rattle.frame.specs.State.{state_of, After}
 use Rattle.frame.proofs.Boundaries.{computing, error_of}
 use Rattle.frame.specs.declared.ModbusFunction.{ModbusFunction}
 use Rattle.frame.specs.declared.ModbusFunction.TheVariants.{GetCoils, GetDiscretes, GetHoldings, GetInputs, SetCoil, SetHolding, SetCoilsBulk, SetHoldingsBulk}
-use Rattle.frame.specs.declared.ModbusError.{ModbusError}
-use Rattle.frame.specs.declared.ModbusError.TheVariants.{Unset, Code}
+use Rattle.std.specs.Prelude.{Option, Some, None}
 use Rattle.frame.specs.declared.ModbusFrame.{ModbusFrame}
 use Rattle.process.specs.Process.{data_bytes, legal?, read_processed, one_written, data_held, many_written, Wrote, write_processed, finalized}
 
@@ -33,7 +32,7 @@ bytes = refl
 
 -- ---- a state with this function, first cell and count, whose response has n bytes
 
-abbrev asking : ModbusProto → ModbusFunction → ℕ → ℕ → ModbusError → ℕ → ModbusFrame
+abbrev asking : ModbusProto → ModbusFunction → ℕ → ℕ → Option ℕ → ℕ → ModbusFrame
 asking p f reg count e n = state_of 1 p true true 0 true 0 f reg count e n
 
 -- the kind, the code, the bytes of the response
@@ -45,7 +44,7 @@ abbrev lent : Lent
 lent = lent_of (0x6F ∷ 0x02 ∷ []) 10 (0xFF ∷ 0xFF ∷ []) 9 (1 ∷ 2 ∷ 3 ∷ 4 ∷ []) 2 (5 ∷ 6 ∷ []) 1
 
 abbrev reading : ModbusProto → ModbusFunction → ℕ → ℕ → ℕ → ℕ × ℕ × List ℕ
-reading p f reg count n = left (read_processed (asking p f reg count Unset n) (1 ∷ 7 ∷ []) lent (replicate (n + 9) 0))
+reading p f reg count n = left (read_processed (asking p f reg count None n) (1 ∷ 7 ∷ []) lent (replicate (n + 9) 0))
 
 -- each table to its last cell, and one beyond: code 2, and five bytes fewer than stood there, or none; counts that no byte count holds, where unit
 -- and function stand already; TCP's length field at 65,535, and one more; a write
@@ -91,7 +90,7 @@ abbrev written : Wrote → (ℕ × ℕ × List ℕ) × List ℕ × List ℕ
 written w = (left w.left, w.coil_bytes, w.holding_bytes)
 
 -- ten coils that are set, with the six bits behind them, and two holdings
-abbrev writing : ModbusFunction → ℕ → ℕ → ModbusError → List ℕ → (ℕ × ℕ × List ℕ) × List ℕ × List ℕ
+abbrev writing : ModbusFunction → ℕ → ℕ → Option ℕ → List ℕ → (ℕ × ℕ × List ℕ) × List ℕ × List ℕ
 writing f reg count e buf =
     written (write_processed (asking Rtu f reg count e 0) buf (0xFF ∷ 0xFF ∷ []) 10 (1 ∷ 2 ∷ 3 ∷ 4 ∷ []) 2 (replicate 6 0))
 
@@ -103,16 +102,16 @@ said high low = 1 ∷ 5 ∷ 0 ∷ 9 ∷ high ∷ low ∷ []
 -- overwritten by code 2 and by code 3; a read
 pub ones :
     ◌≡◌ {A = List ((ℕ × ℕ × List ℕ) × List ℕ × List ℕ)}
-    (writing SetCoil 9 1 Unset (said 0 0)
-    ∷ writing SetCoil 9 1 Unset (said 0xFF 0)
-    ∷ writing SetCoil 10 1 Unset (said 0xFF 0)
-    ∷ writing SetCoil 9 1 Unset (said 0 1)
-    ∷ writing SetCoil 9 1 (Code 4) (said 0xFE 0xFF)
-    ∷ writing SetCoil 9 1 Unset (said 0xFF 1)
-    ∷ writing SetCoil 9 1 Unset (take 5 (said 0 0))
-    ∷ writing SetHolding 1 1 Unset (said 0xAB 0xCD)
-    ∷ writing SetHolding 2 1 (Code 4) (said 0xAB 0xCD)
-    ∷ writing GetCoils 0 1 Unset (said 0 0)
+    (writing SetCoil 9 1 None (said 0 0)
+    ∷ writing SetCoil 9 1 None (said 0xFF 0)
+    ∷ writing SetCoil 10 1 None (said 0xFF 0)
+    ∷ writing SetCoil 9 1 None (said 0 1)
+    ∷ writing SetCoil 9 1 (Some 4) (said 0xFE 0xFF)
+    ∷ writing SetCoil 9 1 None (said 0xFF 1)
+    ∷ writing SetCoil 9 1 None (take 5 (said 0 0))
+    ∷ writing SetHolding 1 1 None (said 0xAB 0xCD)
+    ∷ writing SetHolding 2 1 (Some 4) (said 0xAB 0xCD)
+    ∷ writing GetCoils 0 1 None (said 0 0)
     ∷ [])
     (((0, 0, said 0 0), 0xFF ∷ 0xFD ∷ [], 1 ∷ 2 ∷ 3 ∷ 4 ∷ [])
     ∷ ((0, 0, said 0xFF 0), 0xFF ∷ 0xFF ∷ [], 1 ∷ 2 ∷ 3 ∷ 4 ∷ [])
@@ -136,16 +135,16 @@ data' n d = said 0 2 ++ n ∷ d
 -- the last register and one beyond, an odd byte count
 pub manys :
     ◌≡◌ {A = List ((ℕ × ℕ × List ℕ) × List ℕ × List ℕ)}
-    (writing SetCoilsBulk 8 2 Unset (data' 1 (0x01 ∷ []))
-    ∷ writing SetCoilsBulk 8 2 Unset (data' 1 [])
-    ∷ writing SetCoilsBulk 8 2 Unset (data' 1 (0x02 ∷ 0x00 ∷ []))
-    ∷ writing SetCoilsBulk 8 2 Unset (said 0 2)
-    ∷ writing SetCoilsBulk 8 2 Unset (data' 2 (0x00 ∷ 0x00 ∷ []))
-    ∷ writing SetCoilsBulk 0 9 Unset (data' 1 (0x00 ∷ []))
-    ∷ writing SetCoilsBulk 9 2 Unset (data' 1 (0x00 ∷ []))
-    ∷ writing SetHoldingsBulk 1 7 Unset (data' 2 (0xAB ∷ 0xCD ∷ []))
-    ∷ writing SetHoldingsBulk 1 7 Unset (data' 4 (0xAB ∷ 0xCD ∷ 0 ∷ 0 ∷ []))
-    ∷ writing SetHoldingsBulk 0 1 (Code 4) (data' 3 (0xAB ∷ 0xCD ∷ 0 ∷ []))
+    (writing SetCoilsBulk 8 2 None (data' 1 (0x01 ∷ []))
+    ∷ writing SetCoilsBulk 8 2 None (data' 1 [])
+    ∷ writing SetCoilsBulk 8 2 None (data' 1 (0x02 ∷ 0x00 ∷ []))
+    ∷ writing SetCoilsBulk 8 2 None (said 0 2)
+    ∷ writing SetCoilsBulk 8 2 None (data' 2 (0x00 ∷ 0x00 ∷ []))
+    ∷ writing SetCoilsBulk 0 9 None (data' 1 (0x00 ∷ []))
+    ∷ writing SetCoilsBulk 9 2 None (data' 1 (0x00 ∷ []))
+    ∷ writing SetHoldingsBulk 1 7 None (data' 2 (0xAB ∷ 0xCD ∷ []))
+    ∷ writing SetHoldingsBulk 1 7 None (data' 4 (0xAB ∷ 0xCD ∷ 0 ∷ 0 ∷ []))
+    ∷ writing SetHoldingsBulk 0 1 (Some 4) (data' 3 (0xAB ∷ 0xCD ∷ 0 ∷ []))
     ∷ [])
     (((0, 0, said 0 2), 0xFF ∷ 0xFD ∷ [], 1 ∷ 2 ∷ 3 ∷ 4 ∷ [])
     ∷ ((23, 0, []), 0xFF ∷ 0xFF ∷ [], 1 ∷ 2 ∷ 3 ∷ 4 ∷ [])
@@ -163,12 +162,12 @@ manys = refl
 
 -- ---- the end of a response that holds two bytes: an exception of function 3 where one is set, and the check; TCP has no check
 
-abbrev ending : ModbusProto → ModbusError → ℕ × ℕ × List ℕ
+abbrev ending : ModbusProto → Option ℕ → ℕ × ℕ × List ℕ
 ending p e = left (finalized (state_of 1 p true true 3 true 0 GetCoils 0 1 e 2) (1 ∷ 9 ∷ replicate 5 0))
 
 pub ends :
     ◌≡◌ {A = List (ℕ × ℕ × List ℕ)}
-    (ending TcpUdp Unset ∷ ending TcpUdp (Code 2) ∷ ending Ascii Unset ∷ ending Ascii (Code 3) ∷ ending Rtu Unset ∷ [])
+    (ending TcpUdp None ∷ ending TcpUdp (Some 2) ∷ ending Ascii None ∷ ending Ascii (Some 3) ∷ ending Rtu None ∷ [])
     ((0, 0, 1 ∷ 9 ∷ [])
     ∷ (0, 2, 1 ∷ 9 ∷ 0 ∷ 3 ∷ 1 ∷ 131 ∷ 2 ∷ [])
     ∷ (0, 0, 1 ∷ 9 ∷ 246 ∷ [])

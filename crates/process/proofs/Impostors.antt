@@ -18,7 +18,7 @@ use Rattle.frame.specs.State.{state_of, fresh, After, well}
 use Rattle.frame.specs.Parse.{frame_parsed}
 use Rattle.frame.proofs.Boundaries.{computing}
 use Rattle.frame.specs.declared.ModbusFunction.TheVariants.{GetHoldings, SetHolding}
-use Rattle.frame.specs.declared.ModbusError.TheVariants.{Unset, Code}
+use Rattle.std.specs.Prelude.{Option, Some, None}
 use Rattle.frame.specs.declared.ModbusFrame.{ModbusFrame}
 use Rattle.process.specs.Process.{legal?, read_processed, one_written, Wrote, wrote, write_processed, finalized}
 
@@ -47,14 +47,14 @@ lent = lent_of [] 0 [] 0 (1 ∷ 2 ∷ 3 ∷ 4 ∷ []) 2 [] 0
 
 -- to be processed, with this count; its response has no byte
 abbrev to_read : ℕ → ModbusFrame
-to_read n = state_of 1 Rtu true true 3 true 0 GetHoldings 0 n Unset 0
+to_read n = state_of 1 Rtu true true 3 true 0 GetHoldings 0 n None 0
 
 abbrev to_write : ModbusFrame
-to_write = state_of 1 Rtu true true 6 false 0 SetHolding 0 1 Unset 0
+to_write = state_of 1 Rtu true true 6 false 0 SetHolding 0 1 None 0
 
 -- an exception is to be sent
 abbrev to_end : ModbusFrame
-to_end = state_of 1 TcpUdp true true 3 true 6 GetHoldings 0 1 (Code 2) 0
+to_end = state_of 1 TcpUdp true true 3 true 6 GetHoldings 0 1 (Some 2) 0
 
 module _ (P : Calls) where
   -- ---- all work in parse, idle afterwards

@@ -1,3 +1,2 @@
 pub mod Process
-pub mod Cells
 pub mod Resumed

@@ -1,7 +1,7 @@
 -- `process_read`, `process_write` and `finalize_response` (source 000). What has no room is OOB at that point, and what
 -- came before it stands.
 -- Assumes nothing.
-use Rattle.std.specs.Prelude.{◌⊎◌, ◌≡◌, List, ℕ, ◌+◌, ◌-◌, ◌*◌, ◌/◌, ◌%◌, length, get_or, take, drop}
+use Rattle.std.specs.Prelude.{◌⊎◌, ◌≡◌, List, ℕ, ◌+◌, ◌-◌, ◌*◌, ◌/◌, ◌%◌, length, get_or, take, drop, Option, Some, None}
 use Rattle.modbus.specs.Step.{Step, stop, go, ◌>>=◌, ◌>>◌, need, choose, ◌≤?◌, ◌≟◌, ◌or?◌}
 use Rattle.modbus.specs.Table.{Kind, bit, word, target}
 use Rattle.modbus.specs.Ported.{Ported, reads, one, many}
@@ -15,8 +15,6 @@ use Rattle.tables.specs.Lent.{Lent, table_of, cells_of}
 use Rattle.outgoing.specs.Grow.{Response, response, Short, growth, reached, head, echo, except, seal}
 use Rattle.frame.specs.State.{ported_of, grown, with_error, After, after, well, refused, ended}
 use Rattle.frame.specs.Parse.{or_leave, second_word}
-use Rattle.frame.specs.declared.ModbusError.{ModbusError}
-use Rattle.frame.specs.declared.ModbusError.TheVariants.{Unset, Code}
 use Rattle.frame.specs.declared.ModbusFrame.{ModbusFrame}
 
 -- ---- a state's response, and the state after something was added to it
@@ -154,9 +152,9 @@ write_processed s buf c cn h hn out =
 
 -- ---- the end of a response: an exception where one is set, and a serial line's check
 
-abbrev pub excepted : ModbusError → ModbusFrame → Response → Step Short Response
-excepted Unset s r = go r
-excepted (Code c) s r = except s.proto s.unit_id s.responding_to_fn c r
+abbrev pub excepted : Option ℕ → ModbusFrame → Response → Step Short Response
+excepted None s r = go r
+excepted (Some c) s r = except s.proto s.unit_id s.responding_to_fn c r
 
 unfoldable pub finalized : ModbusFrame → List ℕ → After
 finalized s out = adding s (growth (excepted s.error s (response_of s out) >>= seal s.proto))

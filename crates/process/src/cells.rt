@@ -1,75 +1,42 @@
 // Bits and words: what a request's cells are.
 ghost use Rattle.std.specs.Prelude.{true, false, ◌≡◌, ◌+◌, ◌≤◌, length};
-ghost use Rattle.modbus.specs.Paper.{told, size_paper};
+ghost use Rattle.modbus.specs.Paper.{kind_in, told, paper};
 ghost use Rattle.modbus.specs.Step.{choose};
-ghost use Rattle.modbus.specs.Table.{bit};
 ghost use Rattle.process.specs.Process.{data_bytes, legal?, data_behind};
-ghost use Rattle.process.specs.Cells.{kind_in};
 
-use modbus::{ErrorKind, SizeAnswer};
-
-#[derive(Clone, Copy)]
-pub enum Cells {
-    Bits,
-    Words,
-}
+use modbus::{CellKind, ErrorKind};
 
 // How many data bytes so many cells take. Those of registers are counted in 16 bits: the highest bit of the count falls
 // away.
-pub fn data_bytes(of: Cells, count: u16) -> u16
+pub fn data_bytes(of: CellKind, count: u16) -> u16
     ensures { result ≡ data_bytes (kind_in of) count }
 {
     match of {
-        Cells::Bits => bits_bytes(count),
-        Cells::Words => (count % 32768) * 2,
+        CellKind::Bits => count.div_ceil(8),
+        CellKind::Words => count.wrapping_mul(2),
     }
-}
-
-fn bits_bytes(count: u16) -> u16
-    ensures { result ≡ data_bytes bit count }
-{
-    let whole = count / 8;
-    if count % 8 != 0 {
-        return whole + 1;
-    }
-    whole
 }
 
 // Whether the value of one cell is refused: that of a coil is on or off.
-pub fn illegal(of: Cells, value: u16) -> bool
+pub fn illegal(of: CellKind, value: u16) -> bool
     ensures { result ≡ choose (legal? (kind_in of) value) false true }
 {
     match of {
-        Cells::Words => false,
-        Cells::Bits => neither(value),
+        CellKind::Words => false,
+        CellKind::Bits => value != 0xff00 && value != 0,
     }
-}
-
-fn neither(value: u16) -> bool
-    ensures { result ≡ choose (legal? bit value) false true }
-{
-    if value == 0xff00 {
-        return false;
-    }
-    if value == 0 {
-        return false;
-    }
-    true
 }
 
 // How many data bytes a write of many has behind its first seven, if the frame holds them.
-pub fn data_behind(buf: &[u8], start: usize) -> SizeAnswer
-    ensures { size_paper result ≡ told (data_behind buf.now start) }
+pub fn data_behind(buf: &[u8], start: usize) -> Result<usize, ErrorKind>
+    ensures { paper result ≡ told (data_behind buf.now start) }
 {
-    if buf.len() < start {
-        return SizeAnswer::Refused(ErrorKind::FrameBroken);
-    }
-    if buf.len() - start < 7 {
-        return SizeAnswer::Refused(ErrorKind::FrameBroken);
+    if buf.len() < start || buf.len() - start < 7 {
+        return Err(ErrorKind::FrameBroken);
     }
     let bytes = buf[start + 6] as usize;
     if buf.len() - start - 7 < bytes {
-        return SizeAnswer::Refused(ErrorKind::FrameBroken);
+        return Err(ErrorKind::FrameBroken);
     }
-    SizeAnswer::Value(bytes)
+    Ok(bytes)
 }

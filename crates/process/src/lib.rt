@@ -11,15 +11,13 @@ ghost use Rattle.tables.specs.Lent.{lent_of};
 ghost use Rattle.frame.specs.State.{left_paper};
 ghost use Rattle.process.specs.Process.{read_processed, wrote, write_processed, finalized};
 
-use added::resume;
-use cells::Cells;
-use frame::{Left, ModbusError, ModbusFrame, ModbusFunction};
-use modbus::{DoneAnswer, ErrorKind};
-use reads::{Table, read};
+use frame::{ModbusFrame, ModbusFunction};
+use modbus::{CellKind, ErrorKind};
+use reads::read;
 use writes::{write_many, write_one};
 
 pub fn process_read(
-    frame: ModbusFrame,
+    frame: &mut ModbusFrame,
     buf: &[u8],
     coils: &[u8],
     coil_cells: usize,
@@ -30,22 +28,21 @@ pub fn process_read(
     inputs: &[u8],
     input_cells: usize,
     response: &mut [u8],
-) -> Left
-    ensures { left_paper result response.new ≡ read_processed frame buf.now
+) -> Result<(), ErrorKind>
+    ensures { left_paper result frame.new response.new ≡ read_processed frame.old buf.now
         (lent_of coils.now coil_cells discretes.now discrete_cells
         holdings.now holding_cells inputs.now input_cells)
         response.old }
 {
     if response.len() < frame.response_len {
-        return frame.refused(ErrorKind::OOB);
+        return Err(ErrorKind::OOB);
     }
-    let f = frame.func;
-    match f {
-        ModbusFunction::GetCoils => read(frame, buf, Table::Coils, coils, coil_cells, response),
+    match frame.func {
+        ModbusFunction::GetCoils => read(frame, buf, CellKind::Bits, coils, coil_cells, response),
         ModbusFunction::GetDiscretes => read(
             frame,
             buf,
-            Table::Discretes,
+            CellKind::Bits,
             discretes,
             discrete_cells,
             response,
@@ -53,46 +50,59 @@ pub fn process_read(
         ModbusFunction::GetHoldings => read(
             frame,
             buf,
-            Table::Holdings,
+            CellKind::Words,
             holdings,
             holding_cells,
             response,
         ),
-        ModbusFunction::GetInputs => read(frame, buf, Table::Inputs, inputs, input_cells, response),
-        ModbusFunction::SetCoil => frame.refused(ErrorKind::WriteCallOnReadFrame),
-        ModbusFunction::SetHolding => frame.refused(ErrorKind::WriteCallOnReadFrame),
-        ModbusFunction::SetCoilsBulk => frame.refused(ErrorKind::WriteCallOnReadFrame),
-        ModbusFunction::SetHoldingsBulk => frame.refused(ErrorKind::WriteCallOnReadFrame),
+        ModbusFunction::GetInputs => read(
+            frame,
+            buf,
+            CellKind::Words,
+            inputs,
+            input_cells,
+            response,
+        ),
+        ModbusFunction::SetCoil
+        | ModbusFunction::SetHolding
+        | ModbusFunction::SetCoilsBulk
+        | ModbusFunction::SetHoldingsBulk => Err(ErrorKind::WriteCallOnReadFrame),
     }
 }
 
 pub fn process_write(
-    frame: ModbusFrame,
+    frame: &mut ModbusFrame,
     buf: &[u8],
     coils: &mut [u8],
     coil_cells: usize,
     holdings: &mut [u8],
     holding_cells: usize,
     response: &mut [u8],
-) -> Left
-    ensures { wrote (left_paper result response.new) coils.new holdings.new ≡
-        write_processed frame buf.now coils.old coil_cells
+) -> Result<(), ErrorKind>
+    ensures { wrote (left_paper result frame.new response.new) coils.new holdings.new ≡
+        write_processed frame.old buf.now coils.old coil_cells
         holdings.old holding_cells response.old }
 {
     if response.len() < frame.response_len {
-        return frame.refused(ErrorKind::OOB);
+        return Err(ErrorKind::OOB);
     }
-    let f = frame.func;
-    match f {
-        ModbusFunction::GetCoils => frame.refused(ErrorKind::ReadCallOnWriteFrame),
-        ModbusFunction::GetDiscretes => frame.refused(ErrorKind::ReadCallOnWriteFrame),
-        ModbusFunction::GetHoldings => frame.refused(ErrorKind::ReadCallOnWriteFrame),
-        ModbusFunction::GetInputs => frame.refused(ErrorKind::ReadCallOnWriteFrame),
-        ModbusFunction::SetCoil => write_one(frame, buf, Cells::Bits, coils, coil_cells, response),
+    match frame.func {
+        ModbusFunction::GetCoils
+        | ModbusFunction::GetDiscretes
+        | ModbusFunction::GetHoldings
+        | ModbusFunction::GetInputs => Err(ErrorKind::ReadCallOnWriteFrame),
+        ModbusFunction::SetCoil => write_one(
+            frame,
+            buf,
+            CellKind::Bits,
+            coils,
+            coil_cells,
+            response,
+        ),
         ModbusFunction::SetHolding => write_one(
             frame,
             buf,
-            Cells::Words,
+            CellKind::Words,
             holdings,
             holding_cells,
             response,
@@ -100,7 +110,7 @@ pub fn process_write(
         ModbusFunction::SetCoilsBulk => write_many(
             frame,
             buf,
-            Cells::Bits,
+            CellKind::Bits,
             coils,
             coil_cells,
             response,
@@ -108,7 +118,7 @@ pub fn process_write(
         ModbusFunction::SetHoldingsBulk => write_many(
             frame,
             buf,
-            Cells::Words,
+            CellKind::Words,
             holdings,
             holding_cells,
             response,
@@ -116,27 +126,18 @@ pub fn process_write(
     }
 }
 
-pub fn finalize_response(frame: ModbusFrame, response: &mut [u8]) -> Left
-    ensures { left_paper result response.new ≡ finalized frame response.old }
+pub fn finalize_response(frame: &mut ModbusFrame, response: &mut [u8]) -> Result<(), ErrorKind>
+    ensures { left_paper result frame.new response.new ≡ finalized frame.old response.old }
 {
-    let proto = frame.proto;
-    let error = frame.error;
-    match error {
-        ModbusError::Unset => { resume(frame, outgoing::seal(proto, response, frame.response_len)) }
-        ModbusError::Code(code) => {
-            let e = outgoing::except(
-                proto,
-                frame.unit_id,
-                frame.responding_to_fn,
-                code,
-                response,
-                frame.response_len,
-            );
-            let answer = e.answer;
-            match answer {
-                DoneAnswer::Refused(_) => resume(frame, e),
-                DoneAnswer::Done => resume(frame, outgoing::seal(proto, response, e.len)),
-            }
-        }
+    if let Some(code) = frame.error {
+        outgoing::except(
+            frame.proto,
+            frame.unit_id,
+            frame.responding_to_fn,
+            code,
+            response,
+            &mut frame.response_len,
+        )?;
     }
+    outgoing::seal(frame.proto, response, &mut frame.response_len)
 }

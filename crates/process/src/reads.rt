@@ -1,109 +1,71 @@
 // A read carried out on one lent table.
-ghost use Rattle.std.specs.Prelude.{◌≡◌, ◌-◌};
-ghost use Rattle.modbus.specs.Paper.{size_paper, told_with};
+ghost use Rattle.std.specs.Prelude.{◌≡◌};
+ghost use Rattle.modbus.specs.Paper.{kind_in, paper, told_with};
+ghost use Rattle.modbus.specs.Table.{target};
 ghost use Rattle.modbus.specs.Storage.{storage};
 ghost use Rattle.tables.specs.Calls.{added};
 ghost use Rattle.frame.specs.State.{left_paper};
 ghost use Rattle.process.specs.Process.{table_read};
-ghost use Rattle.process.specs.Cells.{kind_in, tab_by};
-ghost use Rattle.process.specs.Resumed.{data_left};
 
 use crate::added::add_head;
-use crate::cells::{Cells, data_bytes};
-use frame::{Left, ModbusFrame};
-use modbus::{DoneAnswer, ErrorKind, SizeAnswer};
-use tables::coils::{get_coils_as_u8, get_discretes_as_u8};
-use tables::registers::{get_holdings_as_u8, get_inputs_as_u8};
+use crate::cells::data_bytes;
+use frame::ModbusFrame;
+use modbus::{CellKind, ErrorKind};
+use tables::coils::get_coils_as_u8;
+use tables::registers::get_holdings_as_u8;
 
-#[derive(Clone, Copy)]
-pub(crate) enum Table {
-    Coils,
-    Discretes,
-    Holdings,
-    Inputs,
-}
-
+// Cells outside the table are an exception's matter.
 pub(crate) fn read(
-    frame: ModbusFrame,
+    frame: &mut ModbusFrame,
     buf: &[u8],
-    t: Table,
+    of: CellKind,
     table: &[u8],
     cells: usize,
     response: &mut [u8],
-) -> Left
-    ensures { left_paper result response.new ≡
-        table_read (storage (tab_by t)) table.now cells frame buf.now response.old }
+) -> Result<(), ErrorKind>
+    ensures { left_paper result frame.new response.new ≡
+        table_read (storage (target (kind_in of))) table.now cells frame.old buf.now response.old }
 {
-    let h = add_head(frame, buf, data_bytes(cells_of(t), frame.count), response);
-    let mut s = frame;
-    s.response_len = h.len;
-    let answer = h.answer;
-    match answer {
-        DoneAnswer::Refused(k) => s.refused(k),
-        DoneAnswer::Done => add_data(
-            s,
-            get_cells(t, table, cells, s.reg, s.count, response, s.response_len),
-        ),
+    add_head(frame, buf, data_bytes(of, frame.count), response)?;
+    match get_cells(
+        of,
+        table,
+        cells,
+        frame.reg,
+        frame.count,
+        response,
+        frame.response_len,
+    ) {
+        Ok(n) => {
+            frame.response_len = n;
+            Ok(())
+        }
+        Err(k) => {
+            let ErrorKind::OOBContext = k else {
+                return Err(k);
+            };
+            frame.response_len = frame.response_len.saturating_sub(5);
+            frame.error = Some(2);
+            Ok(())
+        }
     }
 }
 
-fn cells_of(t: Table) -> Cells
-    ensures { kind_in result ≡ (storage (tab_by t)).kind }
-{
-    match t {
-        Table::Coils => Cells::Bits,
-        Table::Discretes => Cells::Bits,
-        Table::Holdings => Cells::Words,
-        Table::Inputs => Cells::Words,
-    }
-}
-
+// Discretes are stored as coils are, inputs as holdings.
 fn get_cells(
-    t: Table,
+    of: CellKind,
     table: &[u8],
     cells: usize,
     reg: u16,
     count: u16,
     response: &mut [u8],
     len: usize,
-) -> SizeAnswer
-    ensures { (size_paper result, response.new) ≡ told_with response.old
-        (added (storage (tab_by t)) table.now cells reg count response.old len) }
+) -> Result<usize, ErrorKind>
+    ensures { (paper result, response.new) ≡ told_with response.old
+        (added (storage (target (kind_in of))) table.now cells reg count response.old len) }
 {
-    match t {
-        Table::Coils => get_coils_as_u8(table, cells, reg, count, response, len),
-        Table::Discretes => get_discretes_as_u8(table, cells, reg, count, response, len),
-        Table::Holdings => get_holdings_as_u8(table, cells, reg, count, response, len),
-        Table::Inputs => get_inputs_as_u8(table, cells, reg, count, response, len),
+    match of {
+        CellKind::Bits => get_coils_as_u8(table, cells, reg, count, response, len),
+        CellKind::Words => get_holdings_as_u8(table, cells, reg, count, response, len),
     }
-}
-
-// What the table call that added a read's data answered; cells outside the table are an exception's matter.
-fn add_data(frame: ModbusFrame, answer: SizeAnswer) -> Left
-    ensures { result ≡ data_left frame answer }
-{
-    match answer {
-        SizeAnswer::Value(n) => {
-            let mut s = frame;
-            s.response_len = n;
-            s.done()
-        }
-        SizeAnswer::Refused(k) => {
-            if let ErrorKind::OOBContext = k {
-                let mut s = frame;
-                s.response_len = without_five(frame.response_len);
-                return s.with_error(2).done();
-            }
-            frame.refused(k)
-        }
-    }
-}
-
-fn without_five(len: usize) -> usize
-    ensures { result ≡ len - 5 }
-{
-    if len < 5 {
-        return 0;
-    }
-    len - 5
 }

@@ -5,23 +5,26 @@ use Rattle.std.proofs.Common.{◌≡◌, ℕ, List, sym, refl, ap, ◌∙◌}
 use contract.Lifetimes.{Lfts}
 use borrow.Fn.Kinds.{Dens, res_t, ended_of}
 use denote.Triple.Clauses.{Lasts, at_exit}
-use Rattle.modbus.proofs.Unique.{Unique}
-use Rattle.records.proofs.start.Kinds as start-kinds
-use Rattle.records.proofs.start.Reads as start-reads
-use Rattle.records.proofs.judged.Kinds as judged-kinds
-use Rattle.records.proofs.judged.Reads as judged-reads
+use Rattle.modbus.proofs.Unique.{Unique, same_truth}
+use Rattle.records.specs.declared.Tally.{Tally}
+use Rattle.records.proofs.reading.Reading.new.Kinds as start-kinds
+use Rattle.records.proofs.reading.Reading.new.Reads as start-reads
+use Rattle.records.proofs.Tally.judge.Kinds as judged-kinds
+use Rattle.records.proofs.Tally.judge.Reads as judged-reads
 use Rattle.records.proofs.report.Kinds as report-kinds
 use Rattle.records.proofs.report.Reads as report-reads
 use Rattle.records.proofs.parts.wide.Kinds as wide-kinds
 use Rattle.records.proofs.parts.wide.Reads as wide-reads
 use Rattle.records.proofs.parts.eight.Kinds as eight-kinds
 use Rattle.records.proofs.parts.eight.Reads as eight-reads
-use Rattle.records.proofs.parts.start_of.Kinds as start-of-kinds
-use Rattle.records.proofs.parts.start_of.Reads as start-of-reads
+use Rattle.records.proofs.parts.Layout.start_of.Kinds as start-of-kinds
+use Rattle.records.proofs.parts.Layout.start_of.Reads as start-of-reads
 use Rattle.records.proofs.parts.cut.Kinds as cut-kinds
 use Rattle.records.proofs.parts.cut.Reads as cut-reads
-use Rattle.records.proofs.parts.part.Kinds as part-kinds
-use Rattle.records.proofs.parts.part.Reads as part-reads
+use Rattle.records.proofs.parts.Layout.part.Kinds as part-kinds
+use Rattle.records.proofs.parts.Layout.part.Reads as part-reads
+use Rattle.records.proofs.parts.Layout.is_whole.Kinds as is-whole-kinds
+use Rattle.records.proofs.parts.Layout.is_whole.Reads as is-whole-reads
 use Rattle.records.proofs.parts.laid.Kinds as laid-kinds
 use Rattle.records.proofs.parts.laid.Reads as laid-reads
 use Rattle.records.proofs.parts.lay.Kinds as lay-kinds
@@ -34,8 +37,8 @@ use Rattle.records.proofs.parts.stands.Reads as stands-reads
 pub start : Unique 0 start-kinds.ps start-kinds.r start-reads.Post
 start κs a x y u v p q = (p ∙ sym q, refl)
 
-pub judged : Unique 0 judged-kinds.ps judged-kinds.r judged-reads.Post
-judged κs a x y u v p q = (p ∙ sym q, refl)
+pub judged : Unique 1 judged-kinds.ps judged-kinds.r judged-reads.Post
+judged κs a x y u v p q = (refl, ap (λ (t : Tally). (t, u.1)) (p ∙ sym q))
 
 pub report : Unique 2 report-kinds.ps report-kinds.r report-reads.Post
 report κs a x y u v p q = (p ∙ sym q, refl)
@@ -48,6 +51,9 @@ eight κs a x y u v p q = (p ∙ sym q, refl)
 
 pub start_of_law : Unique 1 start-of-kinds.ps start-of-kinds.r start-of-reads.Post
 start_of_law κs a x y u v p q = (p ∙ sym q, refl)
+
+pub is_whole : Unique 1 is-whole-kinds.ps is-whole-kinds.r is-whole-reads.Post
+is_whole κs a x y u v p q = (same_truth p q, refl)
 
 pub laid : Unique 1 laid-kinds.ps laid-kinds.r laid-reads.Post
 laid κs a x y u v p q = (p ∙ sym q, refl)

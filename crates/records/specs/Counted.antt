@@ -1,11 +1,15 @@
 -- Where a reading begins, and how records are counted.
 -- Assumes nothing.
-use Rattle.std.specs.Prelude.{ℕ, ◌+◌, ◌%◌, ◌^◌, Bool, true, false}
-use Rattle.records.specs.declared.Reading.{Reading}
+use Rattle.std.specs.Prelude.{ℕ, ◌+◌, ◌%◌, ◌^◌, Bool, true, false, None}
+use Rattle.records.specs.declared.reading.Line.TheVariants as line
+use Rattle.records.specs.declared.reading.Reading.{Reading}
 use Rattle.records.specs.declared.Tally.{Tally}
 
 abbrev pub opening : Reading
-opening = record { at = 0; «have» = 0; len = 0; high = 0; half = false; broken = false; comment = false; whole = false; ended = false }
+opening = record { at = 0; «have» = 0; ended = false; line = line.Record; len = 0; high = None }
+
+abbrev pub none_run : Tally
+none_run = record { records = 0; wrong = 0 }
 
 abbrev pub one_more : ℕ → ℕ
 one_more n = (n + 1) % 2 ^ 64

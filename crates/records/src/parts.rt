@@ -1,7 +1,7 @@
 // Numbers and parts of a record, and lent bytes laid before a call and compared after it. The parts stand one behind
-// the other, and so do their lengths, two bytes each; where the two rows begin, each list of records says for itself.
-ghost use Rattle.std.specs.Prelude.{◌≡◌, ◌<◌, slice_index_or};
-ghost use Rattle.records.specs.Parts.{wide_at, eight_at, part_start, cut_of, part_of, laid_in, counted_in, wanted_at, stood};
+// the other, and so do their lengths, two bytes each; where the two rows begin, each list of records says in its layout.
+ghost use Rattle.std.specs.Prelude.{◌≡◌, ◌<◌, ◌↔◌, IsTrue, length, slice_index_or};
+ghost use Rattle.records.specs.Parts.{wide_at, eight_at, part_start, length_of, cut_of, part_of, laid_in, counted_in, wanted_at, stood};
 
 use octets::word;
 
@@ -26,17 +26,6 @@ pub fn eight(record: &[u8], at: usize) -> usize
     wide(record, at) * 4294967296 + wide(record, at + 4)
 }
 
-// Where the part k begins.
-pub fn start_of(record: &[u8], lengths: u16, parts: u16, k: u8) -> usize
-    ensures { result ≡ part_start «record».now lengths parts k }
-{
-    let mut at = parts as usize;
-    for i in 0..k {
-        at += word(record, lengths as usize + 2 * (i as usize)) as usize;
-    }
-    at
-}
-
 // So many bytes from a place on, uncopied; none where they are not all there.
 pub fn cut<'a>(bytes: &'a [u8], from: usize, len: usize) -> &'a [u8]
     ensures { (result.now, result.ref_ptr) ≡ cut_of bytes.entry from len }
@@ -51,29 +40,60 @@ pub fn cut<'a>(bytes: &'a [u8], from: usize, len: usize) -> &'a [u8]
     &bytes[from..to]
 }
 
-// The part k.
-pub fn part<'a>(record: &'a [u8], lengths: u16, parts: u16, k: u8) -> &'a [u8]
-    ensures { (result.now, result.ref_ptr) ≡ part_of «record».entry lengths parts k }
-{
-    let len = word(record, lengths as usize + 2 * (k as usize)) as usize;
-    cut(record, start_of(record, lengths, parts, k), len)
+// Where the parts of a record and their lengths begin, and how many parts there are.
+#[derive(Clone, Copy)]
+pub struct Layout {
+    pub lengths: u16,
+    pub parts: u16,
+    pub count: u8,
+}
+
+impl Layout {
+    // Where the part k begins.
+    pub fn start_of(self, record: &[u8], k: u8) -> usize
+        ensures { result ≡ part_start «record».now self.lengths self.parts k }
+    {
+        let mut at = self.parts as usize;
+        for i in 0..k {
+            at += self.len_of(record, i);
+        }
+        at
+    }
+
+    // How many bytes the part k has.
+    fn len_of(self, record: &[u8], k: u8) -> usize
+        ensures { (result ≡ length_of «record».now self.lengths k) × (result < 65536) }
+    {
+        word(record, self.lengths as usize + 2 * (k as usize)) as usize
+    }
+
+    // Whether the record ends where its parts do.
+    pub fn is_whole(self, record: &[u8]) -> bool
+        ensures { IsTrue result ↔ (length «record».now ≡ part_start «record».now self.lengths self.parts self.count) }
+    {
+        record.len() == self.start_of(record, self.count)
+    }
+
+    // The part k.
+    pub fn part<'a>(self, record: &'a [u8], k: u8) -> &'a [u8]
+        ensures { (result.now, result.ref_ptr) ≡ part_of «record».entry self.lengths self.parts k }
+    {
+        cut(record, self.start_of(record, k), self.len_of(record, k))
+    }
 }
 
 // The byte i of a buffer that holds `front`, and then the byte `filler` to its end.
 pub fn laid(i: usize, front: &[u8], filler: u8) -> u8
     ensures { result ≡ slice_index_or front.now i filler }
 {
-    if i < front.len() {
-        return front[i];
-    }
-    filler
+    front.get(i).copied().unwrap_or(filler)
 }
 
 pub fn lay(buffer: &mut [u8], front: &[u8], filler: u8)
     ensures { buffer.new ≡ laid_in buffer.old front.now filler }
 {
-    for i in 0..buffer.len() {
-        buffer[i] = laid(i, front, filler);
+    for (i, b) in buffer.iter_mut().enumerate() {
+        *b = laid(i, front, filler);
     }
 }
 
@@ -81,8 +101,8 @@ pub fn lay(buffer: &mut [u8], front: &[u8], filler: u8)
 pub fn lay_counted(buffer: &mut [u8], front: &[u8])
     ensures { buffer.new ≡ counted_in buffer.old front.now }
 {
-    for i in 0..buffer.len() {
-        buffer[i] = laid(i, front, ((0x5a + i % 256) % 256) as u8);
+    for (i, b) in buffer.iter_mut().enumerate() {
+        *b = laid(i, front, ((0x5a + i % 256) % 256) as u8);
     }
 }
 
@@ -107,8 +127,8 @@ pub fn stands(buffer: &[u8], front: &[u8], filler: u8, at: usize, after: &[u8]) 
     if buffer.len() - at < after.len() {
         return false;
     }
-    for i in 0..buffer.len() {
-        if buffer[i] != wanted(i, front, filler, at, after) {
+    for (i, b) in buffer.iter().enumerate() {
+        if *b != wanted(i, front, filler, at, after) {
             return false;
         }
     }

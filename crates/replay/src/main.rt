@@ -2,40 +2,31 @@
 // says. No Rust is needed for it.
 #![tactic(auto)]
 
-use modbus::{Answer, ProtoAnswer};
-use records::Tally;
-use std::io::{Stdin, Stdout};
+use lengths::Side;
+use modbus::{Answer, ModbusProto};
 
 // The bytes of a record before its input.
 const HEAD: usize = 11;
 
 // What the port answers to a guess, strict.
-fn guess(call: u8, input: &[u8], proto: u8) -> Answer {
-    let transport = modbus::proto_of(proto);
-    match transport {
-        ProtoAnswer::Value(p) => {
-            if call == 7 {
-                return modbus::byte_answer(lengths::guess_request_frame_len(input, p, 0));
-            }
-            modbus::byte_answer(lengths::guess_response_frame_len(input, p, 0))
-        }
-        ProtoAnswer::BadSetup => Answer { value: 0, kind: 10 },
+fn guess(side: Side, input: &[u8], proto: u8) -> Answer {
+    match ModbusProto::try_from(proto) {
+        Ok(p) => Answer::from(lengths::guess_frame_len(side, input, p, 0)),
+        Err(e) => Answer::from(e),
     }
 }
 
 // What the port answers to a call, strict, as the crate reads; the calls that are lent a buffer leave it changed.
 fn answer(call: u8, small: u8, size: usize, input: &[u8], lent: &mut [u8]) -> Answer {
     match call {
-        1 => Answer {
-            value: checks::calc_crc16(input, small) as usize,
-            kind: 0,
-        },
-        2 => modbus::byte_answer(checks::calc_lrc(input, small)),
-        3 => modbus::byte_answer(checks::digit_under(small, 0)),
-        4 => modbus::byte_answer(checks::hex_to_chr(small)),
-        5 => modbus::byte_answer(ascii::parse_ascii_frame(input, size, lent, small, 0)),
-        6 => modbus::size_answer(ascii::generate_ascii_frame(input, lent)),
-        _ => guess(call, input, small),
+        1 => Answer::from(Ok(checks::calc_crc16(input, small))),
+        2 => Answer::from(checks::calc_lrc(input, small)),
+        3 => Answer::from(checks::digit_under(small, 0)),
+        4 => Answer::from(checks::hex_to_chr(small)),
+        5 => Answer::from(ascii::parse_ascii_frame(input, size, lent, small, 0)),
+        6 => Answer::from(ascii::generate_ascii_frame(input, lent)),
+        7 => guess(Side::Request, input, small),
+        _ => guess(Side::Response, input, small),
     }
 }
 
@@ -79,33 +70,20 @@ fn replayed(record: &[u8], lent: &mut [u8]) -> bool {
     agrees(record, &record[HEAD..from], &record[from..], &mut lent[..m])
 }
 
-// A proved loop has to end, and nothing says that the list does. So the loop counts its turns, up to a number that no
-// list reaches.
-fn replay(input: Stdin, out: Stdout, text: &mut [u8], record: &mut [u8], lent: &mut [u8]) -> Tally {
-    let mut s = records::start();
-    let mut t = Tally {
-        records: 0,
-        wrong: 0,
-    };
-    for _ in 0..1000000u32 {
-        s = records::next(input, text, record, s);
-        if !s.whole {
-            return t;
-        }
-        let len = s.len;
-        t = records::judged(out, t, replayed(&record[..len], lent));
-    }
-    t
-}
+// No list has so many records.
+const MOST: u32 = 1000000;
 
 fn main(rt: HostRuntime) {
-    let mut text = [0; 4096];
-    let mut record = [0; 4096];
     let mut lent = [0; 4096];
-    let t = replay(rt.stdin(), rt.stdout(), &mut text, &mut record, &mut lent);
+    let tally = records::run(
+        rt.stdin(),
+        rt.stdout(),
+        MOST,
+        |record| replayed(record, &mut lent),
+    );
     records::report(
         rt.stdout(),
-        t,
+        tally,
         b"answers of the crate replayed: ",
         b"answers that differ: ",
     );

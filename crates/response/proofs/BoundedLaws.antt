@@ -8,9 +8,10 @@ use native.Mathlib.Omega.{arith}
 use native.Mathlib.Numerals.{add-one}
 use lib.ListN.{length, get_or, take, drop, set, replicate, length-drop, length-replicate, replicate-append-replicate}
 use lib.Seq.{sets, take-suc, take-suc-set, take_all, take-add, get_or-drop, length-take-le}
+use Rattle.modbus.specs.declared.ErrorKind.{ErrorKind}
+use Rattle.std.specs.Prelude.{Result}
 use Rattle.modbus.specs.Step.{stop, go, ◌≤?◌}
-use Rattle.modbus.specs.Paper.{told_with, size_paper}
-use Rattle.modbus.specs.declared.SizeAnswer.{SizeAnswer}
+use Rattle.modbus.specs.Paper.{told_with, paper}
 use Rattle.modbus.specs.declared.ErrorKind.TheVariants.{OOB}
 use Rattle.modbus.proofs.StepLaws.{pass, fail}
 use Rattle.modbus.proofs.BytesLaws.{sets_append}
@@ -24,8 +25,8 @@ unfolding extended
 extended_fits out len l h = pass _ _ _ (omega arith) ∙ pass _ _ _ h
 
 -- bytes put behind the first `len` of a buffer that has room
-pub extended_put : (buf l after : List ℕ) (len : ℕ) (r : SizeAnswer)
-    → ◌≡◌ {A = (ℕ × ℕ) × List ℕ} (size_paper r, after) (told_with buf (extended buf len l)) → len + length l ≤ length buf → after ≡ sets buf len l
+pub extended_put : (buf l after : List ℕ) (len : ℕ) (r : Result ℕ ErrorKind)
+    → ◌≡◌ {A = (ℕ × ℕ) × List ℕ} (paper r, after) (told_with buf (extended buf len l)) → len + length l ≤ length buf → after ≡ sets buf len l
 extended_put buf l after len r e h = ap (λ (p : (ℕ × ℕ) × List ℕ). p.1) (e ∙ ap (told_with buf) (extended_fits buf len l h))
 
 pub extended_none : (out : List ℕ) (len : ℕ) (l : List ℕ) → length out < len + length l → extended out len l ≡ stop OOB

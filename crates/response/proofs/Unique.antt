@@ -3,8 +3,8 @@
 use mathlib.Core.Path.{◌≡◌, refl, sym, ap, ◌∙◌}
 use mathlib.Core.List.{List}
 use Prim.Native.Nat.{ℕ}
-use Rattle.modbus.specs.Paper.{size_paper}
-use Rattle.modbus.proofs.Unique.{Unique, size_paper_law}
+use Rattle.modbus.specs.Paper.{paper}
+use Rattle.modbus.proofs.Unique.{Unique, paper_law}
 use Rattle.response.proofs.push.Kinds as push-kinds
 use Rattle.response.proofs.push.Reads as push-reads
 use Rattle.response.proofs.extend.Kinds as extend-kinds
@@ -23,16 +23,16 @@ told_apart paper only lasts x y l m e =
     (only x y (ap (λ (t : (ℕ × ℕ) × List ℕ). t.0) e), ap (λ (t : (ℕ × ℕ) × List ℕ). lasts t.1) e)
 
 pub push : Unique 1 push-kinds.ps push-kinds.r push-reads.Post
-push κs a x y u v p q = told_apart size_paper size_paper_law (λ l. (l, u.1)) x y _ _ (p ∙ sym q)
+push κs a x y u v p q = told_apart paper paper_law (λ l. (l, u.1)) x y _ _ (p ∙ sym q)
 
 pub extend : Unique 2 extend-kinds.ps extend-kinds.r extend-reads.Post
-extend κs a x y u v p q = told_apart size_paper size_paper_law (λ l. (l, u.1)) x y _ _ (p ∙ sym q)
+extend κs a x y u v p q = told_apart paper paper_law (λ l. (l, u.1)) x y _ _ (p ∙ sym q)
 
 pub resize : Unique 1 resize-kinds.ps resize-kinds.r resize-reads.Post
-resize κs a x y u v p q = told_apart size_paper size_paper_law (λ l. (l, u.1)) x y _ _ (p ∙ sym q)
+resize κs a x y u v p q = told_apart paper paper_law (λ l. (l, u.1)) x y _ _ (p ∙ sym q)
 
 pub cut_end : Unique 1 cut-end-kinds.ps cut-end-kinds.r cut-end-reads.Post
-cut_end κs a x y u v p q = (size_paper_law x y (p ∙ sym q), refl)
+cut_end κs a x y u v p q = (paper_law x y (p ∙ sym q), refl)
 
 pub clear : Unique 1 clear-kinds.ps clear-kinds.r clear_reads.Post
-clear κs a x y u v p q = (size_paper_law x y (p ∙ sym q), refl)
+clear κs a x y u v p q = (paper_law x y (p ∙ sym q), refl)

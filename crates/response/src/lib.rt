@@ -3,19 +3,19 @@
 
 ghost use Rattle.std.specs.Prelude.{◌≡◌, [], ◌∷◌, ◌+◌, ◌-◌, ◌*◌, ◌/◌, ◌%◌, ◌≤◌, length, take, drop};
 ghost use Rattle.std.proofs.lemmas.List.Edits.{sets};
-ghost use Rattle.modbus.specs.Paper.{told, told_with, size_paper};
+ghost use Rattle.modbus.specs.Paper.{told, told_with, paper};
 ghost use Rattle.response.specs.Bounded.{extended, resized, cut};
 
-use modbus::{ErrorKind, SizeAnswer};
+use modbus::ErrorKind;
 
-pub fn push(response: &mut [u8], len: usize, value: u8) -> SizeAnswer
-    ensures { (size_paper result, response.new) ≡ told_with response.old (extended response.old len (value ∷ [])) }
+pub fn push(response: &mut [u8], len: usize, value: u8) -> Result<usize, ErrorKind>
+    ensures { (paper result, response.new) ≡ told_with response.old (extended response.old len (value ∷ [])) }
 {
     if response.len() <= len {
-        return SizeAnswer::Refused(ErrorKind::OOB);
+        return Err(ErrorKind::OOB);
     }
     response[len] = value;
-    SizeAnswer::Value(len + 1)
+    Ok(len + 1)
 }
 
 // The n bytes of `src` from `from` on go to the places of `dst` from `at` on. All are read before the first is written: so the compiler
@@ -62,49 +62,49 @@ fn copy(dst: &mut [u8], at: usize, src: &[u8])
     copy_power(dst, at, src, d, 1);
 }
 
-pub fn extend(response: &mut [u8], len: usize, other: &[u8]) -> SizeAnswer
-    ensures { (size_paper result, response.new) ≡ told_with response.old (extended response.old len other.now) }
+pub fn extend(response: &mut [u8], len: usize, other: &[u8]) -> Result<usize, ErrorKind>
+    ensures { (paper result, response.new) ≡ told_with response.old (extended response.old len other.now) }
 {
     if response.len() < len {
-        return SizeAnswer::Refused(ErrorKind::OOB);
+        return Err(ErrorKind::OOB);
     }
     if response.len() - len < other.len() {
-        return SizeAnswer::Refused(ErrorKind::OOB);
+        return Err(ErrorKind::OOB);
     }
     copy(response, len, other);
-    SizeAnswer::Value(len + other.len())
+    Ok(len + other.len())
 }
 
-pub fn resize(response: &mut [u8], len: usize, new_len: usize, value: u8) -> SizeAnswer
-    ensures { (size_paper result, response.new) ≡ told_with response.old (resized response.old len new_len value) }
+pub fn resize(response: &mut [u8], len: usize, new_len: usize, value: u8) -> Result<usize, ErrorKind>
+    ensures { (paper result, response.new) ≡ told_with response.old (resized response.old len new_len value) }
 {
     if response.len() < len {
-        return SizeAnswer::Refused(ErrorKind::OOB);
+        return Err(ErrorKind::OOB);
     }
     if response.len() < new_len {
-        return SizeAnswer::Refused(ErrorKind::OOB);
+        return Err(ErrorKind::OOB);
     }
     for i in len..new_len {
         response[i] = value;
     }
-    SizeAnswer::Value(new_len)
+    Ok(new_len)
 }
 
 // Only the length changes, so the slice is lent to be looked at.
-pub fn cut_end(response: &[u8], len: usize, n: usize) -> SizeAnswer
-    ensures { size_paper result ≡ told (cut response.now len n) }
+pub fn cut_end(response: &[u8], len: usize, n: usize) -> Result<usize, ErrorKind>
+    ensures { paper result ≡ told (cut response.now len n) }
 {
     if response.len() < len {
-        return SizeAnswer::Refused(ErrorKind::OOB);
+        return Err(ErrorKind::OOB);
     }
     if len < n {
-        return SizeAnswer::Value(0);
+        return Ok(0);
     }
-    SizeAnswer::Value(len - n)
+    Ok(len - n)
 }
 
-pub fn clear(response: &[u8], len: usize) -> SizeAnswer
-    ensures { size_paper result ≡ told (cut response.now len len) }
+pub fn clear(response: &[u8], len: usize) -> Result<usize, ErrorKind>
+    ensures { paper result ≡ told (cut response.now len len) }
 {
     cut_end(response, len, len)
 }

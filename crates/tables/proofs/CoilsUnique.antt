@@ -3,7 +3,7 @@
 use mathlib.Core.Path.{refl, sym, ap, ◌∙◌}
 use mathlib.Core.List.{List}
 use Prim.Native.Nat.{ℕ}
-use Rattle.modbus.proofs.Unique.{Unique, bit_paper_law, done_paper_law, size_paper_law}
+use Rattle.modbus.proofs.Unique.{Unique, bit_paper_law, done_paper_law, paper_law}
 use Rattle.tables.proofs.coils.get_coil.Kinds as get-coil-kinds
 use Rattle.tables.proofs.coils.get_coil.Reads as get-coil-reads
 use Rattle.tables.proofs.coils.set_coil.Kinds as set-coil-kinds
@@ -31,7 +31,7 @@ pub get_coils_as_u8 : Unique 2 get-coils-kinds.ps get-coils-kinds.r get-coils-re
 get_coils_as_u8 κs a x y u v p q =
     let e = p ∙ sym q in
     let rest = u.1.1.1 in (
-      size_paper_law x y (ap (λ (t : Told). t.0) e),
+      paper_law x y (ap (λ (t : Told). t.0) e),
       ap (λ (t : Told). (u.0, (u.1.0, (u.1.1.0, (rest.0, (t.1, rest.1.1)))))) e,
     )
 
@@ -39,7 +39,7 @@ pub get_discretes_as_u8 : Unique 2 get-discretes-kinds.ps get-discretes-kinds.r 
 get_discretes_as_u8 κs a x y u v p q =
     let e = p ∙ sym q in
     let rest = u.1.1.1 in (
-      size_paper_law x y (ap (λ (t : Told). t.0) e),
+      paper_law x y (ap (λ (t : Told). t.0) e),
       ap (λ (t : Told). (u.0, (u.1.0, (u.1.1.0, (rest.0, (t.1, rest.1.1)))))) e,
     )
 

@@ -5,12 +5,12 @@ ghost use Rattle.std.proofs.lemmas.List.Edits.{sets};
 ghost use Rattle.modbus.specs.Bytes.{pack};
 ghost use Rattle.modbus.specs.Table.{bit, part};
 ghost use Rattle.modbus.specs.Request.{shown};
-ghost use Rattle.modbus.specs.Paper.{told, told_with, bit_paper, done_paper, size_paper, digit_of};
+ghost use Rattle.modbus.specs.Paper.{told, told_with, bit_paper, done_paper, paper, digit_of};
 ghost use Rattle.modbus.specs.Storage.{coil_at, with_bit, packed, store, size};
 ghost use Rattle.tables.specs.Calls.{got, changed, added, stored};
 ghost use Rattle.tables.specs.Runs.{binary};
 
-use modbus::{BitAnswer, DoneAnswer, ErrorKind, SizeAnswer};
+use modbus::ErrorKind;
 
 fn bit_of(byte: u8, n: u8) -> bool
     requires { n < 8 }
@@ -41,25 +41,25 @@ fn size_of(table: &[u8], cells: usize) -> usize
     cells
 }
 
-pub fn get_coil(table: &[u8], cells: usize, reg: u16) -> BitAnswer
+pub fn get_coil(table: &[u8], cells: usize, reg: u16) -> Result<bool, ErrorKind>
     ensures { bit_paper result ≡ told (got packed table.now cells reg) }
 {
     let n = reg as usize;
     if n >= size_of(table, cells) {
-        return BitAnswer::Refused(ErrorKind::OOBContext);
+        return Err(ErrorKind::OOBContext);
     }
-    BitAnswer::Value(bit_of(table[n / 8], (n % 8) as u8))
+    Ok(bit_of(table[n / 8], (n % 8) as u8))
 }
 
-pub fn set_coil(table: &mut [u8], cells: usize, reg: u16, value: bool) -> DoneAnswer
+pub fn set_coil(table: &mut [u8], cells: usize, reg: u16, value: bool) -> Result<(), ErrorKind>
     ensures { (done_paper result, table.new) ≡ told_with table.old (changed packed table.old cells reg (digit_of value)) }
 {
     let n = reg as usize;
     if n >= size_of(table, cells) {
-        return DoneAnswer::Refused(ErrorKind::OOBContext);
+        return Err(ErrorKind::OOBContext);
     }
     table[n / 8] = with_bit(table[n / 8], (n % 8) as u8, value);
-    DoneAnswer::Done
+    Ok(())
 }
 
 // Eight bits of two bytes side by side, from bit `shift` of the low one on.
@@ -165,23 +165,23 @@ fn add_cells(
     count: u16,
     response: &mut [u8],
     len: usize,
-) -> SizeAnswer
-    ensures { (size_paper result, response.new) ≡ told_with response.old (added packed table.now cells reg count response.old len) }
+) -> Result<usize, ErrorKind>
+    ensures { (paper result, response.new) ≡ told_with response.old (added packed table.now cells reg count response.old len) }
 {
     if len > response.len() {
-        return SizeAnswer::Refused(ErrorKind::OOB);
+        return Err(ErrorKind::OOB);
     }
     let from = reg as usize;
     let n = count as usize;
     if from + n > size_of(table, cells) {
-        return SizeAnswer::Refused(ErrorKind::OOBContext);
+        return Err(ErrorKind::OOBContext);
     }
     let end = len + (n + 7) / 8;
     if end > response.len() {
-        return SizeAnswer::Refused(ErrorKind::OOB);
+        return Err(ErrorKind::OOB);
     }
     show(response, len, table, from, n);
-    SizeAnswer::Value(end)
+    Ok(end)
 }
 
 pub fn get_coils_as_u8(
@@ -191,8 +191,8 @@ pub fn get_coils_as_u8(
     count: u16,
     response: &mut [u8],
     len: usize,
-) -> SizeAnswer
-    ensures { (size_paper result, response.new) ≡ told_with response.old (added packed table.now cells reg count response.old len) }
+) -> Result<usize, ErrorKind>
+    ensures { (paper result, response.new) ≡ told_with response.old (added packed table.now cells reg count response.old len) }
 {
     add_cells(table, cells, reg, count, response, len)
 }
@@ -204,8 +204,8 @@ pub fn get_discretes_as_u8(
     count: u16,
     response: &mut [u8],
     len: usize,
-) -> SizeAnswer
-    ensures { (size_paper result, response.new) ≡ told_with response.old (added packed table.now cells reg count response.old len) }
+) -> Result<usize, ErrorKind>
+    ensures { (paper result, response.new) ≡ told_with response.old (added packed table.now cells reg count response.old len) }
 {
     add_cells(table, cells, reg, count, response, len)
 }
@@ -216,17 +216,17 @@ pub fn set_coils_from_u8(
     reg: u16,
     count: u16,
     values: &[u8],
-) -> DoneAnswer
+) -> Result<(), ErrorKind>
     ensures { (done_paper result, table.new) ≡ told_with table.old (stored packed table.old cells reg count values.now) }
 {
     let at = reg as usize;
     let n = count as usize;
     if at + n > size_of(table, cells) {
-        return DoneAnswer::Refused(ErrorKind::OOBContext);
+        return Err(ErrorKind::OOBContext);
     }
     if values.len() != (n + 7) / 8 {
-        return DoneAnswer::Refused(ErrorKind::OOBContext);
+        return Err(ErrorKind::OOBContext);
     }
     put_all(table, at, values, n);
-    DoneAnswer::Done
+    Ok(())
 }

@@ -1,10 +1,10 @@
 // Tables of registers: two bytes a cell, high byte first.
 ghost use Rattle.std.specs.Prelude.{◌≡◌, ◌*◌, ◌≤◌, length};
-ghost use Rattle.modbus.specs.Paper.{told, told_with, word_paper, done_paper, size_paper};
+ghost use Rattle.modbus.specs.Paper.{told, told_with, paper, done_paper};
 ghost use Rattle.modbus.specs.Storage.{registers, size};
 ghost use Rattle.tables.specs.Calls.{got, changed, added, stored_whole, named_in, named};
 
-use modbus::{DoneAnswer, ErrorKind, SizeAnswer, WordAnswer};
+use modbus::ErrorKind;
 
 // How many cells the table counts as, which its bytes hold.
 fn size(table: &[u8], cells: usize) -> usize
@@ -19,26 +19,26 @@ fn size(table: &[u8], cells: usize) -> usize
     cells
 }
 
-pub fn get_holding(table: &[u8], cells: usize, reg: u16) -> WordAnswer
-    ensures { word_paper result ≡ told (got registers table.now cells reg) }
+pub fn get_holding(table: &[u8], cells: usize, reg: u16) -> Result<u16, ErrorKind>
+    ensures { paper result ≡ told (got registers table.now cells reg) }
 {
     let n = reg as usize;
     if size(table, cells) <= n {
-        return WordAnswer::Refused(ErrorKind::OOBContext);
+        return Err(ErrorKind::OOBContext);
     }
-    WordAnswer::Value(octets::word(table, 2 * n))
+    Ok(octets::word(table, 2 * n))
 }
 
-pub fn set_holding(table: &mut [u8], cells: usize, reg: u16, value: u16) -> DoneAnswer
+pub fn set_holding(table: &mut [u8], cells: usize, reg: u16, value: u16) -> Result<(), ErrorKind>
     ensures { (done_paper result, table.new) ≡ told_with table.old (changed registers table.old cells reg value) }
 {
     let n = reg as usize;
     if size(table, cells) <= n {
-        return DoneAnswer::Refused(ErrorKind::OOBContext);
+        return Err(ErrorKind::OOBContext);
     }
     table[2 * n] = (value / 256) as u8;
     table[2 * n + 1] = (value % 256) as u8;
-    DoneAnswer::Done
+    Ok(())
 }
 
 // The cells' bytes are the part of the table as it stands, added as one extend.
@@ -49,16 +49,16 @@ fn add_part(
     count: u16,
     response: &mut [u8],
     len: usize,
-) -> SizeAnswer
-    ensures { (size_paper result, response.new) ≡ told_with response.old (added registers table.now cells reg count response.old len) }
+) -> Result<usize, ErrorKind>
+    ensures { (paper result, response.new) ≡ told_with response.old (added registers table.now cells reg count response.old len) }
 {
     if response.len() < len {
-        return SizeAnswer::Refused(ErrorKind::OOB);
+        return Err(ErrorKind::OOB);
     }
     let first = reg as usize;
     let end = first + count as usize;
     if size(table, cells) < end {
-        return SizeAnswer::Refused(ErrorKind::OOBContext);
+        return Err(ErrorKind::OOBContext);
     }
     let a = 2 * first;
     let e = 2 * end;
@@ -72,8 +72,8 @@ pub fn get_holdings_as_u8(
     count: u16,
     response: &mut [u8],
     len: usize,
-) -> SizeAnswer
-    ensures { (size_paper result, response.new) ≡ told_with response.old (added registers table.now cells reg count response.old len) }
+) -> Result<usize, ErrorKind>
+    ensures { (paper result, response.new) ≡ told_with response.old (added registers table.now cells reg count response.old len) }
 {
     add_part(table, cells, reg, count, response, len)
 }
@@ -86,25 +86,25 @@ pub fn get_inputs_as_u8(
     count: u16,
     response: &mut [u8],
     len: usize,
-) -> SizeAnswer
-    ensures { (size_paper result, response.new) ≡ told_with response.old (added registers table.now cells reg count response.old len) }
+) -> Result<usize, ErrorKind>
+    ensures { (paper result, response.new) ≡ told_with response.old (added registers table.now cells reg count response.old len) }
 {
     add_part(table, cells, reg, count, response, len)
 }
 
-pub fn set_holdings_from_u8(table: &mut [u8], cells: usize, reg: u16, values: &[u8]) -> DoneAnswer
+pub fn set_holdings_from_u8(table: &mut [u8], cells: usize, reg: u16, values: &[u8]) -> Result<(), ErrorKind>
     ensures { (done_paper result, table.new) ≡ told_with table.old (stored_whole table.old cells reg values.now) }
 {
     let first = reg as usize;
     if size(table, cells) < first + values.len() / 2 {
-        return DoneAnswer::Refused(ErrorKind::OOBContext);
+        return Err(ErrorKind::OOBContext);
     }
     if values.len() % 2 != 0 {
-        return DoneAnswer::Refused(ErrorKind::OOBContext);
+        return Err(ErrorKind::OOBContext);
     }
     let a = 2 * first;
-    response::extend(&mut table[a..], 0, values);
-    DoneAnswer::Done
+    let _ = response::extend(&mut table[a..], 0, values);
+    Ok(())
 }
 
 // The part of one table, and an empty one where the cells lie outside.

@@ -44,7 +44,7 @@ record Sized (p : ModbusProto) (f : List ℕ) (m : Message) : Type 0 where
   high : length m.body ≤ 254
   within : start_of p + length m.body ≤ length f
 
-first_two : (f : List ℕ) → 2 ≤ length f → take 2 f ≡ get_or f 0 0 ∷ get_or f 1 0 ∷ []
+pub first_two : (f : List ℕ) → 2 ≤ length f → take 2 f ≡ get_or f 0 0 ∷ get_or f 1 0 ∷ []
 first_two [] h = absurd (omega arith)
 first_two (x ∷ []) h = absurd (omega arith)
 first_two (x ∷ y ∷ f) h = refl

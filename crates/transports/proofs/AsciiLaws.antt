@@ -1,18 +1,16 @@
 -- What an ASCII frame holds: whether it is a line, how its text is read, and what the check says of its bytes.
 -- Assumes nothing.
 use Rattle.std.proofs.Common.{◌≡◌, ℕ, ◌+◌, ◌-◌, ◌*◌, ◌≤◌, Bool, true, false, List, [], ◌∷◌, length, get_or, take, drop, sym, refl, ap, ◌∙◌, arith, length-drop, length-take, take_at}
-use Rattle.std.specs.Prelude.{Result, Err}
+use Rattle.std.specs.Prelude.{Result, Ok, Err}
 use lib.Seq.{sets, sets-eq, length-sets}
 use Rattle.std.proofs.Common.{⊎_elim, eqb}
 use Rattle.std.proofs.lemmas.Bool.Decides.{eqb_tells}
 use Rattle.modbus.specs.Step.{Step, stop, go, choose, ◌≤?◌, ◌≟◌}
-use Rattle.modbus.specs.Paper.{told, byte_paper}
+use Rattle.modbus.specs.Paper.{told, paper}
 use Rattle.modbus.specs.Hex.{spell, spelt, untext}
 use Rattle.modbus.specs.Decode.{frame_broken_quiet, or_broken, unwrap}
 use Rattle.modbus.specs.declared.ErrorKind.{ErrorKind}
 use Rattle.modbus.specs.declared.ErrorKind.TheVariants.{OOB}
-use Rattle.modbus.specs.declared.ByteAnswer.{ByteAnswer}
-use Rattle.modbus.specs.declared.ByteAnswer.TheVariants as byte
 use Rattle.modbus.specs.declared.ModbusProto.TheVariants.{Ascii}
 use Rattle.modbus.proofs.StepLaws.{pass, fail, follow, halt, pick_yes, pick_no, picked}
 use Rattle.modbus.proofs.HexLaws.{length_text, text_untext, length_spelt, get_d_spelt, drop_spelt, spell_before, spell_back, spelt_before, spelt_back}
@@ -167,10 +165,10 @@ pub front : (l buf : List ℕ) (n : ℕ) → length l ≡ n → n ≤ length buf
 front l buf n e h = rw (sets-eq l buf 0 (omega arith)) (take_at l (drop (0 + length l) buf) n e)
 
 -- r was answered for the text of a line, which left `after`
-module _ (f raw after : List ℕ) (r : ByteAnswer) (h : Lined f) (fits : 254 ≤ length raw)
-    (e : ◌≡◌ {A = (ℕ × ℕ) × List ℕ} (byte_paper r, after) (parsed_into f (length f - 2) raw 0)) where
-  paper : byte_paper r ≡ told (counted (reading f (length raw)) (reading f (length raw)).ending)
-  paper = ap (λ (p : (ℕ × ℕ) × List ℕ). p.0) e
+module _ (f raw after : List ℕ) (r : Result ℕ ErrorKind) (h : Lined f) (fits : 254 ≤ length raw)
+    (e : ◌≡◌ {A = (ℕ × ℕ) × List ℕ} (paper r, after) (parsed_into f (length f - 2) raw 0)) where
+  answered : paper r ≡ told (counted (reading f (length raw)) (reading f (length raw)).ending)
+  answered = ap (λ (p : (ℕ × ℕ) × List ℕ). p.0) e
 
   left : after ≡ sets raw 0 (reading f (length raw)).bytes
   left = ap (λ (p : (ℕ × ℕ) × List ℕ). p.1) e
@@ -178,19 +176,19 @@ module _ (f raw after : List ℕ) (r : ByteAnswer) (h : Lined f) (fits : 254 ≤
   pub decoded_kept : length after ≡ length raw
   decoded_kept = ap length left ∙ length-sets raw 0 (reading f (length raw)).bytes
 
-  pub text_refused : (k : ErrorKind) → r ≡ byte.Refused k → Told f (Err Broken) after
-  text_refused k q = told_stop f after (ascii_refused f (length raw) h fits k (byte_refusal r _ k paper q))
+  pub text_refused : (k : ErrorKind) → r ≡ Err k → Told f (Err Broken) after
+  text_refused k q = told_stop f after (ascii_refused f (length raw) h fits k (byte_refusal r _ k answered q))
 
-  module _ (n : ℕ) (q : r ≡ byte.Value n) where
+  module _ (n : ℕ) (q : r ≡ Ok n) where
     pub text_cut : ¬ (2 * n + 3 ≡ length f) → Told f (Err Broken) after
-    text_cut j = told_stop f after (ascii_cut f (length raw) h fits n (byte_value r _ n paper q) j)
+    text_cut j = told_stop f after (ascii_cut f (length raw) h fits n (byte_value r _ n answered q) j)
 
     pub text_within : 2 * n + 3 ≡ length f → (1 ≤ n) × (n ≤ length after)
     text_within j = (omega arith, omega (arith, decoded_kept))
 
     pub text_read : 2 * n + 3 ≡ length f → (o : Result ℕ Fault) → o ≡ opened (checked lrc_byte 1 (take n after)) → Told f o after
     text_read j o p =
-        let (m, u) = ascii_read f (length raw) h fits n (byte_value r _ n paper q) j in
+        let (m, u) = ascii_read f (length raw) h fits n (byte_value r _ n answered q) j in
         let t = ap (take n) left ∙ front (reading f (length raw)).bytes raw n m (omega arith) in
         let w = text_within j in
         told_checked f after n o w.0 w.1 (u ∙ ap (checked lrc_byte 1) (sym t)) p

@@ -2,6 +2,12 @@
 -- Assumes nothing.
 use mathlib.Core.Logic.{by_cases}
 use Rattle.std.proofs.Common.{◌≡◌, ℕ, suc, ◌-◌, ◌<◌, ◌≤◌, List, [], ◌∷◌, length, get_or, take, drop, sym, ap, ◌∙◌, arith, drop_of_length-le, length-take-le, drop-cons, get_or-take, take-take}
+use Rattle.std.specs.Prelude.{Result, Ok, Err, IsOk}
+use Rattle.std.proofs.Common.{refl}
+use Rattle.modbus.specs.Paper.{paper, told}
+use Rattle.modbus.specs.declared.ErrorKind.{ErrorKind}
+use Rattle.checks.specs.Within.{lrc_within}
+use Rattle.checks.proofs.WithinLaws.{lrc_never}
 use Rattle.modbus.specs.Step.{stop, go, same?}
 use Rattle.modbus.specs.Check.{lrc}
 use Rattle.modbus.specs.Decode.{frame_check_quiet}
@@ -32,6 +38,11 @@ module _ (check : List ℕ → List ℕ) (k : ℕ) (s : List ℕ) (n : ℕ) (low
       by_cases (same? (drop (n - k) (take n s)) (check (take (n - k) s)))
       (λ e. rw (checked_right e) (rw (length-take-le (n - k) s (omega arith))))
       (λ h. rw (checked_wrong h) tt)
+
+-- an LRC within the bytes is answered
+pub lrc_answered : (r : Result ℕ ErrorKind) (s : List ℕ) (n : ℕ) → n ≤ length s → paper r ≡ told (lrc_within s n) → IsOk r
+lrc_answered (Ok v) s n h e = refl
+lrc_answered (Err k) s n h e = absurd (lrc_never (Err k) s n h e k refl)
 
 -- the last byte is the LRC, or it is not
 module _ (s : List ℕ) (n : ℕ) (low : 1 ≤ n) (high : n ≤ length s) where

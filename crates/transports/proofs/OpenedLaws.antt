@@ -4,6 +4,11 @@ use mathlib.Core.Logic.{by_cases}
 use Rattle.std.proofs.Common.{◌≡◌, ℕ, suc, ◌+◌, ◌-◌, ◌/◌, ◌%◌, ◌<◌, ◌≤◌, List, [], ◌∷◌, length, get_or, take, drop, sym, ap, ◌∙◌, add-one, arith, length-drop, drop_of_length-le, length-take-le, drop-cons}
 use Rattle.std.specs.Prelude.{Ok}
 use Rattle.std.specs.Int.{w16, to_le_bytes}
+use Rattle.std.specs.Bool.{Decides}
+use Rattle.std.specs.Cmp.Lexicographic.{pointwise}
+use Rattle.std.proofs.Common.{Bool, true, false, not, eqb, refl}
+use Rattle.std.proofs.lemmas.Bool.{false≢true}
+use Rattle.std.proofs.lemmas.Slice.Eq.{bytes_eq-Decides}
 use lib.Seq.{take-length}
 use Rattle.modbus.specs.Step.{stop, go, ◌≤?◌, ◌≟◌, ◌and?◌}
 use Rattle.modbus.specs.Bytes.{word_at}
@@ -29,6 +34,21 @@ same_two f n a b e q = let p = sym (last_two f n e) ∙ q in (cc, cc)
 pub two_bytes : (x : ℕ) (l : List ℕ) → x < 65536 → l ≡ to_le_bytes w16 x → (get_or l 0 0 ≡ x % 256) × (get_or l 1 0 ≡ x / 256)
 two_bytes x l h e = (ap (λ (m : List ℕ). get_or m 0 0) e, ap (λ (m : List ℕ). get_or m 1 0) e ∙ omega arith)
 
+pub both_bytes : (x : ℕ) (l : List ℕ) → x < 65536 → l ≡ to_le_bytes w16 x → l ≡ x % 256 ∷ x / 256 ∷ []
+both_bytes x l h e = let z : x / 256 % 256 ≡ x / 256 = omega arith in e ∙ ap (λ (b : ℕ). x % 256 ∷ b ∷ []) z
+
+-- what `!=` says of two slices
+pub differ : (xs ys : List ℕ) (r : Bool) → r ≡ not (pointwise eqb xs ys) → (r ≡ true → ¬ (xs ≡ ys)) × (r ≡ false → xs ≡ ys)
+differ xs ys r e = by (pointwise eqb xs ys) (bytes_eq-Decides xs ys) e
+  where
+    by : (b : Bool) → Decides b (xs ≡ ys) → r ≡ not b → (r ≡ true → ¬ (xs ≡ ys)) × (r ≡ false → xs ≡ ys)
+    by true d e = ((λ t q. false≢true (sym e ∙ t)), (λ f. d.0 refl))
+    by false d e = ((λ t q. false≢true (d.1 q)), (λ f. absurd (false≢true (sym f ∙ e))))
+
+-- all that stands behind a place
+pub rest_whole : (l : List ℕ) (n : ℕ) → take (length l - n) (drop n l) ≡ drop n l
+rest_whole l n = ap (λ (k : ℕ). take k (drop n l)) (sym (length-drop n l)) ∙ take-length (drop n l)
+
 -- ---- RTU
 
 -- the shape of an RTU frame
@@ -45,18 +65,15 @@ rtu_checked f h = pass _ _ _ h ∙ ap (checked crc_bytes 2) (sym (take-length f)
 
 -- x is the CRC of all but the last two bytes
 module _ (f : List ℕ) (x : ℕ) (h : Long f) (e : x ≡ crc (take (length f - 2) f)) where
-  pub rtu_check : ¬ ((get_or f (length f - 2) 0 ≡ x % 256) × (get_or f (length f - 2 + 1) 0 ≡ x / 256)) → unwrap Rtu f ≡ stop frame_check_quiet
+  pub rtu_check : ¬ (drop (length f - 2) f ≡ x % 256 ∷ x / 256 ∷ []) → unwrap Rtu f ≡ stop frame_check_quiet
   rtu_check n =
       rtu_checked f h
-      ∙ checked_wrong crc_bytes 2 f (length f) (omega arith) (omega arith) (λ q.
-      n (same_two f (length f - 2) _ _ (omega arith) (rw e (rw take-length at q))))
+      ∙ checked_wrong crc_bytes 2 f (length f) (omega arith) (omega arith) (λ q. n (rw e (rw take-length at q)))
 
-  pub rtu_body : get_or f (length f - 2) 0 ≡ x % 256 → get_or f (length f - 2 + 1) 0 ≡ x / 256
-      → unwrap Rtu f ≡ go (record { tag = []; body = take (length f - 2) f })
-  rtu_body p q =
+  pub rtu_body : drop (length f - 2) f ≡ x % 256 ∷ x / 256 ∷ [] → unwrap Rtu f ≡ go (record { tag = []; body = take (length f - 2) f })
+  rtu_body p =
       rtu_checked f h
-      ∙ checked_right crc_bytes 2 f (length f) (omega arith) (omega arith)
-      (rw take-length (last_two f (length f - 2) (omega arith) ∙ rw (p, q, e)))
+      ∙ checked_right crc_bytes 2 f (length f) (omega arith) (omega arith) (rw take-length (p ∙ rw e))
 
 pub rtu_length : (f : List ℕ) → Ok (length f - 2) ≡ opened (go (record { tag = []; body = take (length f - 2) f }))
 rtu_length f = ap Ok (sym (length-take-le (length f - 2) f (omega arith)))

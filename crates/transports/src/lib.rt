@@ -1,5 +1,6 @@
 // Frames taken apart and put together, by the transport's number: from a frame to the body that it holds, and from a body to the frame
-// around it.
+// around it. The transport and the switch for small letters are C's numbers, since these calls answer for each of them (docs/PROMISES.md):
+// from 2 on it is TCP.
 #![tactic(auto)]
 
 pub mod lines;
@@ -81,7 +82,8 @@ pub fn body_of<'a>(
 }
 
 // Makes the n bytes that stand in the reply from the transport's start on a frame at the front of the reply, and answers its length;
-// nothing where there is no room. `high` and `low` are the two bytes of a TCP transaction number.
+// nothing where there is no room. They stand beside n and not in a slice of their own, since a frame is closed in place (docs/COST.md).
+// `high` and `low` are the two bytes of a TCP transaction number.
 pub fn seal(transport: u8, high: u8, low: u8, n: u8, reply: &mut [u8]) -> Option<usize>
     ensures { (result, reply.new) ≡ sealed (proto_of transport) (tag_of (proto_of transport) high low) n reply.old }
 {

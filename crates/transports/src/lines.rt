@@ -15,8 +15,6 @@ ghost use Rattle.transports.specs.Sealed.{sealed};
 use crate::Fault;
 use ascii::{low_digit, other, parse_text, put_text};
 use checks::calc_lrc;
-use modbus::ByteAnswer;
-use response::extend;
 
 // Whether a frame is a line of text within the bounds.
 fn is_line(frame: &[u8]) -> bool
@@ -29,21 +27,17 @@ fn is_line(frame: &[u8]) -> bool
     frame[0] == b':' && frame[n] == b'\r' && frame[n + 1] == b'\n'
 }
 
-// The first n bytes of `raw` are a body and then its LRC, if the last is that.
-fn check_lrc(raw: &[u8], n: u8) -> Result<usize, Fault>
-    requires { (1 ≤ n) × (n ≤ length raw.now) }
-    ensures { result ≡ opened (checked lrc_byte 1 (take n raw.now)) }
+// The bytes are a body and then its LRC, if the last is that.
+fn check_lrc(bytes: &[u8]) -> Result<usize, Fault>
+    requires { (1 ≤ length bytes.now) × (length bytes.now ≤ 256) }
+    ensures { result ≡ opened (checked lrc_byte 1 bytes.now) }
 {
-    let k = n - 1;
-    match calc_lrc(raw, k) {
-        ByteAnswer::Refused(_) => Err(Fault::Broken),
-        ByteAnswer::Value(lrc) => {
-            if raw[k as usize] != lrc {
-                return Err(Fault::WrongCheck);
-            }
-            Ok(k as usize)
-        }
+    let k = bytes.len() - 1;
+    let lrc = calc_lrc(bytes, k as u8).unwrap();
+    if bytes[k] != lrc {
+        return Err(Fault::WrongCheck);
     }
+    Ok(k)
 }
 
 // 0 if the eight characters from `at` on are digits.
@@ -104,20 +98,19 @@ pub fn open_ascii(hex: u8, frame: &[u8], raw: &mut [u8; 256]) -> Result<usize, F
     }
     if is_short(frame) {
         decode_eight(frame, raw);
-        return check_lrc(raw, 7);
+        return check_lrc(&raw[..7]);
     }
-    match parse_text(frame, frame.len() - 2, raw, 0, hex) {
-        ByteAnswer::Refused(_) => Err(Fault::Broken),
-        ByteAnswer::Value(n) => {
-            if 2 * (n as usize) + 3 != frame.len() {
-                return Err(Fault::Broken);
-            }
-            check_lrc(raw, n)
-        }
+    let Ok(n) = parse_text(frame, frame.len() - 2, raw, 0, hex) else {
+        return Err(Fault::Broken);
+    };
+    if 2 * (n as usize) + 3 != frame.len() {
+        return Err(Fault::Broken);
     }
+    check_lrc(&raw[..n as usize])
 }
 
-// Lays the text of the bytes behind the first place, and answers their LRC. One loop for both: it pays where the bytes are few.
+// Lays the text of the bytes behind the first place, and answers their LRC. One loop for both: without it a short frame costs 100
+// instructions more (docs/COST.md).
 fn lay_few(dst: &mut [u8], bytes: &[u8]) -> u8
     requires { 2 * length bytes.now + 1 ≤ length dst.old }
     ensures { (result ≡ lrc bytes.now) × (dst.new ≡ sets dst.old 1 (text bytes.now)) }
@@ -137,10 +130,7 @@ fn lay_many(dst: &mut [u8], bytes: &[u8]) -> u8
     ensures { (result ≡ lrc bytes.now) × (dst.new ≡ sets dst.old 1 (text bytes.now)) }
 {
     put_text(dst, 1, bytes);
-    match calc_lrc(bytes, bytes.len() as u8) {
-        ByteAnswer::Refused(_) => 0,
-        ByteAnswer::Value(check) => check,
-    }
+    calc_lrc(bytes, bytes.len() as u8).unwrap()
 }
 
 // The same for the first n bytes of the reply itself, which are copied before their text is laid over them.
@@ -149,15 +139,11 @@ fn lay_front(reply: &mut [u8], n: usize) -> u8
     ensures { (result ≡ lrc (take n reply.old)) × (reply.new ≡ sets reply.old 1 (text (take n reply.old))) }
 {
     if n < 16 {
-        let mut few = [0u8; 16];
-        extend(&mut few, 0, &reply[..16]);
-        let bytes: &[u8] = &few;
-        return lay_few(reply, &bytes[..n]);
+        let few: [u8; 16] = *reply.first_chunk().unwrap();
+        return lay_few(reply, &few[..n]);
     }
-    let mut many = [0u8; 256];
-    extend(&mut many, 0, &reply[..256]);
-    let bytes: &[u8] = &many;
-    lay_many(reply, &bytes[..n])
+    let many: [u8; 256] = *reply.first_chunk().unwrap();
+    lay_many(reply, &many[..n])
 }
 
 // The text of the body and of its LRC goes between a colon and the end of the line.

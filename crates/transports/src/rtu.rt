@@ -16,8 +16,8 @@ pub fn open_rtu(frame: &[u8]) -> Result<usize, Fault>
         return Err(Fault::Broken);
     }
     let n = frame.len() - 2;
-    let [low, high] = calc_crc16(frame, n as u8).to_le_bytes();
-    if frame[n] != low || frame[n + 1] != high {
+    let crc = calc_crc16(frame, n as u8).to_le_bytes();
+    if frame[n..] != crc[..] {
         return Err(Fault::WrongCheck);
     }
     Ok(n)

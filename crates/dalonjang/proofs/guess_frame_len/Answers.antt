@@ -13,7 +13,7 @@ returns-then-hex-gt1 c = unswitched _ (side_body c.args.request) _ _ (λ h. omeg
 
 pub returns-then-request : goal.returns-then-request
 returns-then-request c =
-    rw c.if-request.true (numbered _ request_body _ _ (omega arith) _ _ (ap proto_paper (sym c.in-Value.is) ∙ c.proto_of-transport.ensures)
+    rw c.if-request.true (numbered _ request_body _ _ (omega arith) _ _ (ap proto_paper (sym c.in-Ok.is) ∙ c.proto_of-transport.ensures)
     (c.byte_answer.ensures ∙ c.guess_request_frame_len.ensures))
 
 pub returns-in-BadSetup : goal.returns-in-BadSetup
@@ -23,5 +23,5 @@ returns-in-BadSetup c =
 
 pub returns-else-request : goal.returns-else-request
 returns-else-request c =
-    rw c.if-request.false (numbered _ response_body _ _ (omega arith) _ _ (ap proto_paper (sym c.in-Value.is) ∙ c.proto_of-transport.ensures)
-    (c.byte_answer-in-Value.ensures ∙ c.guess_response_frame_len.ensures))
+    rw c.if-request.false (numbered _ response_body _ _ (omega arith) _ _ (ap proto_paper (sym c.in-Ok.is) ∙ c.proto_of-transport.ensures)
+    (c.byte_answer-in-Ok.ensures ∙ c.guess_response_frame_len.ensures))

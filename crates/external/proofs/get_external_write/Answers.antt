@@ -1,34 +1,23 @@
--- `external::get_external_write` meets its contract: each arm is a function.
+-- `external::get_external_write` meets its contract: a long response, and each function.
 -- Assumes nothing.
+use mathlib.Core.Logic.{⊎_elim}
 use mathlib.Core.Path.{sym, ◌∙◌}
+use Prim.Native.Nat.{◌≤◌}
+use lib.ListN.{length}
 use native.Mathlib.Omega.{arith}
-use Rattle.external.proofs.WriteLaws.{of_write}
+use Rattle.frame.specs.declared.ModbusFunction.TheVariants.{GetCoils, GetDiscretes, GetHoldings, GetInputs}
 use Rattle.external.specs.External.{write_described_by}
 use Rattle.external.proofs.CallLaws.{call_exceeds, call_by}
 use Rattle.external.proofs.get_external_write.Goals as goal
 
 pub returns-then-response-frame : goal.returns-then-response-frame
-returns-then-response-frame c = of_write _ c.write_left.ensures ∙ sym (call_exceeds write_described_by _ _ _ (omega arith))
+returns-then-response-frame c = sym (call_exceeds write_described_by _ _ _ (omega arith))
 
 pub returns-in-GetCoils : goal.returns-in-GetCoils
 returns-in-GetCoils c =
-    of_write _ c.not_a_write.ensures
-    ∙ sym (call_by write_described_by _ _ _ (omega arith) _ c.in-GetCoils.is)
-
-pub returns-in-GetDiscretes : goal.returns-in-GetDiscretes
-returns-in-GetDiscretes c =
-    of_write _ c.not_a_write-in-GetDiscretes.ensures
-    ∙ sym (call_by write_described_by _ _ _ (omega arith) _ c.in-GetDiscretes.is)
-
-pub returns-in-GetHoldings : goal.returns-in-GetHoldings
-returns-in-GetHoldings c =
-    of_write _ c.not_a_write-in-GetHoldings.ensures
-    ∙ sym (call_by write_described_by _ _ _ (omega arith) _ c.in-GetHoldings.is)
-
-pub returns-in-GetInputs : goal.returns-in-GetInputs
-returns-in-GetInputs c =
-    of_write _ c.not_a_write-in-GetInputs.ensures
-    ∙ sym (call_by write_described_by _ _ _ (omega arith) _ c.in-GetInputs.is)
+    let h : c.args.frame.now.response_len ≤ length c.args.response.now = omega arith in
+    sym (⊎_elim (call_by write_described_by _ c.args.buf.now _ h GetCoils) (⊎_elim (call_by write_described_by _ _ _ h GetDiscretes)
+    (⊎_elim (call_by write_described_by _ _ _ h GetHoldings) (call_by write_described_by _ _ _ h GetInputs))) c.in-GetCoils.is)
 
 pub returns-in-SetCoil : goal.returns-in-SetCoil
 returns-in-SetCoil c =

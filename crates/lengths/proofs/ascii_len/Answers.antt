@@ -2,19 +2,21 @@
 -- Assumes nothing.
 use mathlib.Core.Path.{sym, ap, ◌∙◌}
 use native.Mathlib.Omega.{arith}
-use Rattle.modbus.specs.Paper.{told}
+use Rattle.modbus.specs.Paper.{told, paper}
+use Rattle.modbus.proofs.PaperLaws.{handed_on}
 use Rattle.modbus.proofs.HexLaws.{length_spelt}
 use Rattle.lengths.proofs.GuessLaws.{ascii_told, ascii_halt}
 use Rattle.lengths.proofs.ascii_len.Goals as goal
 
-pub returns-in-Value : goal.returns-in-Value
-returns-in-Value c =
-    let e = rw c.in-Value.is at c.parse_text-parsed.ensures in
+pub returns : goal.returns
+returns c =
+    let e = rw c.in_ok-known.was at c.parse_text.ensures in
     let a = c.args in
     c.serial_len.ensures ∙ sym (ap told (ascii_told _ _ _ (length_spelt a.hex a.text.now) _ _ e (omega arith)))
 
-pub returns-in-Refused : goal.returns-in-Refused
-returns-in-Refused c =
-    let e = rw c.in-Refused.is at c.parse_text-parsed.ensures in
+pub returns-in_err-known : goal.returns-in_err-known
+returns-in_err-known c =
+    let e = rw c.in_err-known.was at c.parse_text.ensures in
     let a = c.args in
-    sym (ap told (ascii_halt _ _ _ (length_spelt a.hex a.text.now) _ c.in-Refused.k e))
+    ap paper (handed_on _ c.from_residual.ensures.1)
+    ∙ sym (ap told (ascii_halt _ _ _ (length_spelt a.hex a.text.now) _ _ e))

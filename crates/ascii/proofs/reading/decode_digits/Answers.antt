@@ -11,26 +11,26 @@ loop-i-init c =
     let y : a.at + 0 ≡ a.at = omega arith in
     (omega arith, refl, rw (z, y) (begun_start _ _ _ _))
 
-pub returns-in-Refused : goal.returns-in-Refused
-returns-in-Refused c =
+pub returns-in-Err : goal.returns-in-Err
+returns-in-Err c =
     let d = begun_done _ _ _ _ _ _ _ c.loop-i.invariant.2 (omega arith) in
     (c.loop-i.invariant.0, d.0, d.1)
 
-pub returns-in-Refused-strict_digit : goal.returns-in-Refused-strict_digit
-returns-in-Refused-strict_digit c =
+pub returns-in-Err-strict_digit : goal.returns-in-Err-strict_digit
+returns-in-Err-strict_digit c =
     let d = begun_done _ _ _ _ _ _ _ c.loop-i.invariant.2 (omega arith) in
     (c.loop-i.invariant.0, d.0, d.1)
 
 pub overflow_mul-buf : goal.overflow_mul-buf
 overflow_mul-buf c =
-    omega (arith, (value_told _ _ _ c.strict_digit.ensures c.in-Value.is).0)
+    omega (arith, (value_told _ _ _ c.strict_digit.ensures c.in-Ok.is).0)
 
 pub overflow_add-buf : goal.overflow_add-buf
 overflow_add-buf c =
     omega (
       arith,
-      (value_told _ _ _ c.strict_digit.ensures c.in-Value.is).0,
-      (value_told _ _ _ c.strict_digit-in-Value.ensures c.in-Value-strict_digit.is).0,
+      (value_told _ _ _ c.strict_digit.ensures c.in-Ok.is).0,
+      (value_told _ _ _ c.strict_digit-in-Ok.ensures c.in-Ok-strict_digit.is).0,
     )
 
 pub loop-i-preserved : goal.loop-i-preserved
@@ -41,8 +41,8 @@ loop-i-preserved c =
     let p : a.at + (i + 1) ≡ suc (a.at + i) = omega arith in (
       omega arith,
       simp length-set c.loop-i.invariant.1,
-      rw (q, p) (begun_on _ _ _ _ _ _ _ c.loop-i.invariant.2 _ _ (value_told _ _ _ c.strict_digit.ensures c.in-Value.is).1
-          (value_told _ _ _ c.strict_digit-in-Value.ensures c.in-Value-strict_digit.is).1),
+      rw (q, p) (begun_on _ _ _ _ _ _ _ c.loop-i.invariant.2 _ _ (value_told _ _ _ c.strict_digit.ensures c.in-Ok.is).1
+          (value_told _ _ _ c.strict_digit-in-Ok.ensures c.in-Ok-strict_digit.is).1),
     )
 
 pub returns : goal.returns

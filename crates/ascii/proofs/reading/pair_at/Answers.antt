@@ -16,37 +16,37 @@ returns-then-end-at c =
     let a = c.args in
     sym
     (pair_second _ _ (no_stop_spell _ _ (no_stop_byte _ _ c.stop_byte.ensures c.if-stop_byte.false)) _ _
-    (byte_value _ _ _ c.digit_under.ensures c.in-Value.is) (second_none (spelt a.hex a.«data».now) _ _ c.if-end-at.true))
+    (byte_value _ _ _ c.digit_under.ensures c.in-Ok.is) (second_none (spelt a.hex a.«data».now) _ _ c.if-end-at.true))
 
 pub overflow_mul-result : goal.overflow_mul-result
 overflow_mul-result c =
-    let d = digit_undigit _ _ (byte_value _ _ _ c.digit_under.ensures c.in-Value.is) in
+    let d = digit_undigit _ _ (byte_value _ _ _ c.digit_under.ensures c.in-Ok.is) in
     omega arith
 
 pub overflow_add-result : goal.overflow_add-result
 overflow_add-result c =
-    let d = digit_undigit _ _ (byte_value _ _ _ c.digit_under.ensures c.in-Value.is) in
-    let e = digit_undigit _ _ (byte_value _ _ _ c.digit_under-in-Value.ensures c.in-Value-digit_under.is) in
+    let d = digit_undigit _ _ (byte_value _ _ _ c.digit_under.ensures c.in-Ok.is) in
+    let e = digit_undigit _ _ (byte_value _ _ _ c.digit_under-in-Ok.ensures c.in-Ok-digit_under.is) in
     omega arith
 
-pub returns-in-Refused : goal.returns-in-Refused
-returns-in-Refused c =
+pub returns-in-Err : goal.returns-in-Err
+returns-in-Err c =
     sym
     (pair_first _ _ (no_stop_spell _ _ (no_stop_byte _ _ c.stop_byte.ensures c.if-stop_byte.false)) _
-    (byte_refusal _ _ _ c.digit_under.ensures c.in-Refused.is))
+    (byte_refusal _ _ _ c.digit_under.ensures c.in-Err.is))
 
-pub returns-in-Refused-digit_under : goal.returns-in-Refused-digit_under
-returns-in-Refused-digit_under c =
+pub returns-in-Err-digit_under : goal.returns-in-Err-digit_under
+returns-in-Err-digit_under c =
     sym
     (pair_second _ _ (no_stop_spell _ _ (no_stop_byte _ _ c.stop_byte.ensures c.if-stop_byte.false)) _ _
-    (byte_value _ _ _ c.digit_under.ensures c.in-Value.is)
+    (byte_value _ _ _ c.digit_under.ensures c.in-Ok.is)
     (second_spelt c.args.hex c.args.«data».now _ _ c.if-end-at.false c.requires.1
-    ∙ byte_refusal _ _ _ c.digit_under-in-Value.ensures c.in-Refused-digit_under.is))
+    ∙ byte_refusal _ _ _ c.digit_under-in-Ok.ensures c.in-Err-digit_under.is))
 
-pub returns-in-Value-digit_under : goal.returns-in-Value-digit_under
-returns-in-Value-digit_under c =
+pub returns-in-Ok-digit_under : goal.returns-in-Ok-digit_under
+returns-in-Ok-digit_under c =
     sym
     (pair_both _ _ (no_stop_spell _ _ (no_stop_byte _ _ c.stop_byte.ensures c.if-stop_byte.false)) _ _
-    (byte_value _ _ _ c.digit_under.ensures c.in-Value.is)
+    (byte_value _ _ _ c.digit_under.ensures c.in-Ok.is)
     (second_spelt c.args.hex c.args.«data».now _ _ c.if-end-at.false c.requires.1
-    ∙ byte_value _ _ _ c.digit_under-in-Value.ensures c.in-Value-digit_under.is))
+    ∙ byte_value _ _ _ c.digit_under-in-Ok.ensures c.in-Ok-digit_under.is))

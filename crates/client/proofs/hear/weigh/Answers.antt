@@ -7,7 +7,8 @@ use native.Mathlib.Omega.{arith}
 use lib.ListN.{get_or, take}
 use Rattle.client.specs.Asking.{excepts?, read_into}
 use Rattle.client.specs.Hearing.{read_of}
-use Rattle.client.proofs.HearLaws.{shown_into, differ, some_held, none_held, shown_of, weigh_echo, weigh_other, other_unit, own_excepted, own_answered}
+use Rattle.transports.proofs.OpenedLaws.{differ}
+use Rattle.client.proofs.HearLaws.{shown_into, some_held, none_held, shown_of, weigh_echo, weigh_other, other_unit, own_excepted, own_answered}
 use Rattle.client.proofs.hear.weigh.Goals as goal
 
 pub returns-then-body-sent : goal.returns-then-body-sent

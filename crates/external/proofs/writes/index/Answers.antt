@@ -5,15 +5,17 @@ use native.Mathlib.Omega.{arith}
 use Rattle.modbus.specs.Paper.{told}
 use Rattle.external.proofs.WriteLaws.{indexed_far, indexed_beyond, indexed_all}
 use Rattle.external.proofs.writes.index.Goals as goal
+use Rattle.external.proofs.writes.index.Goals.{then-buf-end-via-then-buf-end, then-buf-end-via-else-buf-end+then-buf-end-2}
 
 pub returns-then-first-start : goal.returns-then-first-start
 returns-then-first-start c = sym (ap told (indexed_far _ _ _ _ (omega arith)))
 
 pub returns-then-buf-end : goal.returns-then-buf-end
-returns-then-buf-end c = sym (ap told (indexed_beyond _ _ _ _ (omega arith) (omega arith)))
-
-pub returns-then-buf-end-2 : goal.returns-then-buf-end-2
-returns-then-buf-end-2 c = sym (ap told (indexed_beyond _ _ _ _ (omega arith) (omega arith)))
+returns-then-buf-end c =
+    elim c.then-buf-end.branch [
+      | then-buf-end-via-then-buf-end w ↦ sym (ap told (indexed_beyond _ _ _ _ (omega arith) (omega arith)))
+      | then-buf-end-via-else-buf-end+then-buf-end-2 w ↦ sym (ap told (indexed_beyond _ _ _ _ (omega arith) (omega arith)))
+    ]
 
 pub returns : goal.returns
 returns c = sym (ap told (indexed_all _ _ _ _ (omega arith) (omega arith)))

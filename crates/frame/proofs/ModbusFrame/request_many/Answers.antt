@@ -5,33 +5,33 @@ use native.Mathlib.Omega.{arith}
 use Rattle.modbus.proofs.StepLaws.{test_passes}
 use Rattle.modbus.specs.Paper.{told}
 use Rattle.incoming.proofs.EnvelopeLaws.{frame_counted}
-use Rattle.frame.proofs.StateLaws.{left}
+use Rattle.frame.proofs.StateLaws.{handed}
 use Rattle.frame.proofs.ParseLaws.{many_short, many_overflows, many_refused, many_checked}
 use Rattle.frame.proofs.ModbusFrame.request_many.Goals as goal
 
 pub returns-then-buf-start-lt7 : goal.returns-then-buf-start-lt7
 returns-then-buf-start-lt7 c out =
     let a = c.args in
-    left out c.refused.ensures
-    ∙ sym (many_short a.most a.broadcast a.given a.self a.buf.now out (omega arith))
+    sym (many_short a.most a.broadcast a.given a.self.now a.buf.now out (omega arith))
 
 pub returns-then-overflows : goal.returns-then-overflows
 returns-then-overflows c out =
     let a = c.args in
-    left out c.refused-then-overflows.ensures
-    ∙ sym (many_overflows a.most a.broadcast a.given a.self a.buf.now out (omega arith) _ refl _
-    c.overflows.ensures c.if-overflows.true)
+    sym (many_overflows a.most a.broadcast a.given a.self.now a.buf.now out (omega arith) _ refl _ c.overflows.ensures
+    c.if-overflows.true)
 
-pub returns-in-Refused : goal.returns-in-Refused
-returns-in-Refused c out =
+pub returns-in_err-check_frame_crc : goal.returns-in_err-check_frame_crc
+returns-in_err-check_frame_crc c out =
     let a = c.args in
-    left out c.refused-in-Refused.ensures
-    ∙ sym (many_refused a.most a.broadcast a.given a.self a.buf.now out (omega arith) _ refl _
-    c.overflows.ensures c.if-overflows.false _ (c.check_frame_crc.ensures ∙ ap told (frame_counted _ _ _ _ (test_passes _ _ c.overflows.ensures c.if-overflows.false))) _ c.in-Refused.is)
+    let e = c.check_frame_crc.ensures ∙ ap told (frame_counted _ _ _ _ (test_passes _ _ c.overflows.ensures c.if-overflows.false)) in
+    handed _ _ _ out c.from_residual.ensures.1
+    ∙ sym (many_refused a.most a.broadcast a.given a.self.now a.buf.now out (omega arith) _ refl _ c.overflows.ensures
+    c.if-overflows.false _ e _ c.in_err-check_frame_crc.was)
 
-pub returns-in-Done : goal.returns-in-Done
-returns-in-Done c out =
+pub returns : goal.returns
+returns c out =
     let a = c.args in
+    let e = c.check_frame_crc.ensures ∙ ap told (frame_counted _ _ _ _ (test_passes _ _ c.overflows.ensures c.if-overflows.false)) in
     c.accept_many.ensures out
-    ∙ sym (many_checked a.most a.broadcast a.given a.self a.buf.now out (omega arith) _ refl _
-    c.overflows.ensures c.if-overflows.false _ (c.check_frame_crc.ensures ∙ ap told (frame_counted _ _ _ _ (test_passes _ _ c.overflows.ensures c.if-overflows.false))) c.in-Done.is)
+    ∙ sym (many_checked a.most a.broadcast a.given a.self.now a.buf.now out (omega arith) _ refl _ c.overflows.ensures
+    c.if-overflows.false _ e c.in_ok-check_frame_crc.was)

@@ -4,22 +4,21 @@ use mathlib.Core.Path.{sym, ap, ◌∙◌}
 use native.Mathlib.Omega.{arith}
 use Rattle.modbus.specs.Paper.{told}
 use Rattle.incoming.proofs.EnvelopeLaws.{frame_byte}
-use Rattle.frame.proofs.StateLaws.{left}
+use Rattle.frame.proofs.StateLaws.{handed}
 use Rattle.frame.proofs.ParseLaws.{read_short, read_refused, read_checked}
 use Rattle.frame.proofs.ModbusFrame.request_read.Goals as goal
 
 pub returns-then-buf-start-lt6 : goal.returns-then-buf-start-lt6
-returns-then-buf-start-lt6 c out =
-    left out c.refused.ensures ∙ sym (read_short _ _ _ _ out c.if-broadcast.false (omega arith))
+returns-then-buf-start-lt6 c out = sym (read_short _ _ _ _ out c.if-broadcast.false (omega arith))
 
-pub returns-in-Refused : goal.returns-in-Refused
-returns-in-Refused c out =
+pub returns-in_err-check_frame_crc : goal.returns-in_err-check_frame_crc
+returns-in_err-check_frame_crc c out =
     let e = c.check_frame_crc.ensures ∙ ap told (frame_byte _ _ _ 6 (omega arith)) in
-    left out c.refused-in-Refused.ensures
-    ∙ sym (read_refused _ _ _ _ out c.if-broadcast.false (omega arith) _ e _ c.in-Refused.is)
+    handed _ _ _ out c.from_residual.ensures.1
+    ∙ sym (read_refused _ _ _ _ out c.if-broadcast.false (omega arith) _ e _ c.in_err-check_frame_crc.was)
 
-pub returns-in-Done : goal.returns-in-Done
-returns-in-Done c out =
+pub returns : goal.returns
+returns c out =
     let e = c.check_frame_crc.ensures ∙ ap told (frame_byte _ _ _ 6 (omega arith)) in
     c.accept_read.ensures out
-    ∙ sym (read_checked _ _ _ _ out c.if-broadcast.false (omega arith) _ e c.in-Done.is)
+    ∙ sym (read_checked _ _ _ _ out c.if-broadcast.false (omega arith) _ e c.in_ok-check_frame_crc.was)

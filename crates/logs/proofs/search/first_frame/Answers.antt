@@ -1,21 +1,15 @@
 -- `logs::search::first_frame` meets its contract. What is left of the search stands in both invariants: of the starts in the outer, of the lengths at
 -- one start in the inner.
 -- Assumes nothing.
-use mathlib.Core.Path.{◌≡◌, refl, sym, ap, ◌∙◌}
-use mathlib.Core.List.{List}
-use Prim.Native.Nat.{ℕ, suc, ◌+◌, ◌-◌, ◌≤◌, ◌<◌}
-use native.Mathlib.Omega.{arith}
-use native.Mathlib.Numerals.{add-one}
-use lib.ListN.{length, take, drop, get_or}
+use Rattle.std.proofs.Common.{◌≡◌, ℕ, suc, ◌+◌, ◌-◌, ◌≤◌, ◌<◌, List, length, take, drop, get_or, refl, sym, ap, ◌∙◌, arith, add-one, true, true≢false}
 use Rattle.modbus.specs.Check.{crc_byte, crc}
-use Rattle.modbus.proofs.StepLaws.{holds, holds_not}
-use Rattle.logs.specs.Search.{first_in, lengths, starts, paper, ends?, Seen}
+use Rattle.logs.specs.Search.{first_in, lengths, starts, paper, Seen}
 use Rattle.logs.proofs.SearchLaws.{crc_more, taken, passed, no_more, next_start, no_start}
 use Rattle.logs.proofs.search.first_frame.Goals as goal
 
-held : (l : List ℕ) (n last : ℕ) → last ≡ length l - 3 → first_in l n ≡ starts l (last - n) n
+held : (l : List ℕ) (n : ℕ) → first_in l n ≡ starts l (length l - 3 - n) n
 unfolding first_in
-held l n last e = rw e refl
+held l n = refl
 
 on_length : (l : List ℕ) (s m n : ℕ) (z : Seen) → lengths l s (suc m - suc n) (suc n) z ≡ lengths l s (suc m - (n + 1)) (n + 1) z
 on_length l s m n z = ap (λ x. lengths l s (suc m - x) x z) (sym (add-one n))
@@ -30,52 +24,46 @@ more l s n c h k e =
     rw (e, j) (sym (crc_more l s (n - 2) k))
 
 pub starts-init : goal.starts-init
-starts-init c =
-    (refl, held _ _ _ c.last_start-last.ensures)
+starts-init c = (refl, held _ _)
 
 pub loop-n-init : goal.loop-n-init
 loop-n-init c =
-    let a = c.args in (
-      c.starts.invariant.0,
-      (omega arith, (omega arith, (c.opening-register.ensures, c.starts.invariant.1 ∙ next_start a.«record».now _ c.starts.start c.starts-test.true ∙ ap (λ m. lengths a.«record».now c.starts.start (suc m - 4) 4 (starts a.«record».now (c.last_start-last.result - suc c.starts.start) (suc c.starts.start))) (sym c.least-most.ensures)))),
+    let r = c.args.«record».now in
+    let s = c.starts.start in
+    let i = c.starts.invariant in
+    let most = c.min-most.ensures in (
+      i.0,
+      omega arith,
+      c.opening-register.ensures,
+      i.1 ∙ next_start r (length r - 3) s (omega arith) ∙ ap (λ m. lengths r s (suc m - 4) 4 (starts r (length r - 3 - suc s) (suc s))) (sym most),
     )
 
 pub loop-n-preserved : goal.loop-n-preserved
 loop-n-preserved c =
-    let a = c.args in
-    let r = a.«record».now in
+    let r = c.args.«record».now in
     let n = c.loop-n.n in
     let s = c.starts.start in
     let i = c.loop-n.invariant in
     let k : n + 1 - 2 ≡ suc (n - 2) = omega arith in
-    let miss = holds_not (ends? r (s + n) c.loop-n.register) _ c.ends.ensures c.if-ends.false in (
+    let miss : ¬ c.ends.result ≡ true = λ e. absurd (true≢false (sym e ∙ c.if-ends.false)) in (
       i.0,
-      (
-        omega arith,
-        (
-          omega arith,
-          (
-            rw k (c.crc_byte-register.ensures ∙ more r s n c.loop-n.register (omega arith) (omega arith) i.1.1.1.0),
-            i.1.1.1.1 ∙ passed r s c.least-most.result n _ (omega arith) (rw i.1.1.1.0 at miss) ∙ on_length r s c.least-most.result n _,
-          ),
-        ),
-      ),
+      omega arith,
+      rw k (c.crc_byte-register.ensures ∙ more r s n c.loop-n.register (omega arith) (omega arith) i.2),
+      i.3 ∙ passed r s c.min-most.result n _ (omega arith) (λ h. miss (c.ends.ensures.1 (rw i.2 h))) ∙ on_length r s c.min-most.result n _,
     )
 
 pub starts-preserved : goal.starts-preserved
 starts-preserved c =
-    (c.loop-n.invariant.0, c.loop-n.invariant.1.1.1.1 ∙ no_more _ _ _ c.loop-n.n _ (omega arith) ∙ on_start _ _ c.starts.start)
+    let i = c.loop-n.invariant in
+    (i.0, i.3 ∙ no_more _ _ _ c.loop-n.n _ (omega arith) ∙ on_start _ _ c.starts.start)
 
 pub returns-after-starts : goal.returns-after-starts
 returns-after-starts c =
-    ap paper c.starts.invariant.0 ∙ sym (c.starts.invariant.1 ∙ no_start _ _ c.starts.start (omega arith))
+    let i = c.starts.invariant in
+    ap paper i.0 ∙ sym (i.1 ∙ no_start _ _ c.starts.start (omega arith))
 
 pub returns-then-ends : goal.returns-then-ends
 returns-then-ends c =
-    let a = c.args in
-    let r = a.«record».now in
-    let n = c.loop-n.n in
-    let s = c.starts.start in
+    let r = c.args.«record».now in
     let i = c.loop-n.invariant in
-    let hit = holds (ends? r (s + n) c.loop-n.register) _ c.ends.ensures c.if-ends.true in
-    sym (i.1.1.1.1 ∙ taken r s c.least-most.result n _ (omega arith) (rw i.1.1.1.0 at hit))
+    sym (i.3 ∙ taken r c.starts.start c.min-most.result c.loop-n.n _ (omega arith) (rw i.2 at (c.ends.ensures.0 c.if-ends.true)))

@@ -1,17 +1,27 @@
 -- `process::reads::read` meets its contract: the response up to the data, and the answer of the table call.
 -- Assumes nothing.
-use mathlib.Core.Path.{ap, ◌∙◌}
-use Rattle.modbus.specs.Table.{Kind}
-use Rattle.modbus.specs.Storage.{storage}
+use mathlib.Core.Path.{◌≡◌, ap, ◌∙◌}
+use Prim.Native.Nat.{ℕ}
+use Rattle.modbus.specs.Paper.{kind_in}
+use Rattle.modbus.specs.Table.{Kind, target}
+use Rattle.modbus.specs.declared.CellKind.{CellKind}
 use Rattle.process.specs.Process.{data_bytes}
-use Rattle.process.specs.Cells.{tab_by}
-use Rattle.process.proofs.ProcessLaws.{read_data}
+use Rattle.modbus.specs.Storage.{storage}
+use Rattle.process.proofs.ProcessLaws.{kind_stored, read_outside, read_other}
 use Rattle.process.proofs.reads.read.Goals as goal
 
-pub returns-in-Done : goal.returns-in-Done
-returns-in-Done c =
+bytes_of : (of : CellKind) (n : ℕ) {m : ℕ} → m ≡ data_bytes (kind_in of) n → m ≡ data_bytes (storage (target (kind_in of))).kind n
+bytes_of of n e = e ∙ ap (λ (k : Kind). data_bytes k n) (kind_stored (kind_in of))
+
+pub returns-in-OOBContext : goal.returns-in-OOBContext
+returns-in-OOBContext c =
     let a = c.args in
-    let n = c.data_bytes.ensures ∙ ap (λ (k : Kind). data_bytes k a.frame.count) c.cells_of.ensures in
-    read_data (storage (tab_by a.t)) a.table.now a.cells a.frame a.buf.now a.response.now _ n _ _
-    c.add_head-h.ensures c.in-Done.is c.get_cells.result _ c.get_cells.ensures _
-    c.add_data.ensures
+    rw c.saturating_sub-frame.ensures
+    (read_outside (storage (target (kind_in a.of))) a.table.now a.cells a.frame.now a.buf.now a.response.now _ (bytes_of c.args.of _ c.data_bytes.ensures) _ _ _
+    c.add_head.ensures c.in_ok-add_head.was c.get_cells.result _ c.get_cells.ensures _ c.in-Err.is c.in-OOBContext.is)
+
+pub returns-in_default : goal.returns-in_default
+returns-in_default c =
+    let a = c.args in
+    read_other (storage (target (kind_in a.of))) a.table.now a.cells a.frame.now a.buf.now a.response.now _ (bytes_of c.args.of _ c.data_bytes.ensures) _ _ _
+    c.add_head.ensures c.in_ok-add_head.was c.get_cells.result _ c.get_cells.ensures _ c.in-Err.is c.in_default.not-OOBContext

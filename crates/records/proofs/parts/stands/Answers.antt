@@ -17,16 +17,16 @@ returns-then-buffer-at-2 c =
 pub loop-i-init : goal.loop-i-init
 loop-i-init c = (omega arith, same_none _ c.args.buffer.now)
 
-pub returns-then-buffer-i : goal.returns-then-buffer-i
-returns-then-buffer-i c =
+pub returns-then-b-wanted : goal.returns-then-b-wanted
+returns-then-b-wanted c =
     let a = c.args in
     let l = c.loop-i in
-    stood_other a.buffer.now a.front.now a.filler a.at a.after.now l.i _ c.wanted.ensures (omega arith) c.if-buffer-i.true
+    stood_other a.buffer.now a.front.now a.filler a.at a.after.now l.i _ c.wanted.ensures (omega arith) c.if-b-wanted.true
 
 pub loop-i-preserved : goal.loop-i-preserved
 loop-i-preserved c =
     let l = c.loop-i in
-    (omega arith, same_more _ _ l.i _ c.wanted.ensures l.invariant.1 (omega arith) c.if-buffer-i.false)
+    (omega arith, same_more _ _ l.i _ c.wanted.ensures l.invariant.1 (omega arith) c.if-b-wanted.false)
 
 pub returns : goal.returns
 returns c =

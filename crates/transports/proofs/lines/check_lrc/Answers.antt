@@ -1,26 +1,25 @@
 -- `transports::lines::check_lrc` meets its contract: the last byte is the LRC of those before, or it is not.
 -- Assumes nothing.
-use Rattle.std.proofs.Common.{sym, ap, ◌∙◌, arith, length-take-le}
+use Rattle.std.proofs.Common.{length, sym, ap, ◌∙◌, arith, length-take-le}
 use Rattle.std.specs.Prelude.{Ok}
-use Rattle.checks.proofs.WithinLaws.{lrc_value, lrc_never}
+use lib.Seq.{take-length}
+use Rattle.checks.proofs.WithinLaws.{lrc_value}
 use Rattle.transports.specs.Opened.{opened}
-use Rattle.transports.proofs.CheckedLaws.{lrc_wrong, lrc_right}
+use Rattle.transports.proofs.CheckedLaws.{lrc_answered, lrc_wrong, lrc_right}
 use Rattle.transports.proofs.lines.check_lrc.Goals as goal
 
-pub returns-then-raw-k : goal.returns-then-raw-k
-returns-then-raw-k c =
-    let a = c.args in
-    let e = lrc_value _ a.raw.now _ (omega arith) c.calc_lrc.ensures _ c.in-Value.is in
-    sym (ap opened (lrc_wrong a.raw.now a.n (omega arith) (omega arith) (λ h. c.if-raw-k.true (h ∙ sym e))))
+pub unwrap-lrc-requires : goal.unwrap-lrc-requires
+unwrap-lrc-requires c = lrc_answered _ c.args.bytes.now _ (omega arith) c.calc_lrc.ensures
 
-pub returns-in-Refused : goal.returns-in-Refused
-returns-in-Refused c =
-    let a = c.args in
-    absurd (lrc_never _ a.raw.now _ (omega arith) c.calc_lrc.ensures _ c.in-Refused.is)
+pub returns-then-bytes-k : goal.returns-then-bytes-k
+returns-then-bytes-k c =
+    let s = c.args.bytes.now in
+    let e = lrc_value _ s _ (omega arith) c.calc_lrc.ensures _ c.unwrap-lrc.ensures in
+    rw take-length at (sym (ap opened (lrc_wrong s (length s) (omega arith) (omega arith) (λ h. c.if-bytes-k.true (h ∙ sym e)))))
 
-pub returns-else-raw-k : goal.returns-else-raw-k
-returns-else-raw-k c =
-    let a = c.args in
-    let e = lrc_value _ a.raw.now _ (omega arith) c.calc_lrc.ensures _ c.in-Value.is in
-    ap Ok (sym (length-take-le _ a.raw.now (omega arith)))
-    ∙ sym (ap opened (lrc_right a.raw.now a.n (omega arith) (omega arith) (c.if-raw-k.false ∙ e)))
+pub returns : goal.returns
+returns c =
+    let s = c.args.bytes.now in
+    let e = lrc_value _ s _ (omega arith) c.calc_lrc.ensures _ c.unwrap-lrc.ensures in
+    ap Ok (sym (length-take-le _ s (omega arith)))
+    ∙ (rw take-length at (sym (ap opened (lrc_right s (length s) (omega arith) (omega arith) (c.if-bytes-k.false ∙ e)))))

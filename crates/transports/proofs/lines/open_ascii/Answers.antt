@@ -1,9 +1,9 @@
 -- `transports::lines::open_ascii` meets its contract: each way out is a law of a line that is read.
 -- Assumes nothing.
-use Rattle.std.proofs.Common.{◌≡◌, ℕ, ◌-◌, ◌≤◌, List, length, sym, refl, ap, ◌∙◌, arith}
+use Rattle.std.proofs.Common.{◌≡◌, ℕ, ◌-◌, ◌≤◌, List, length, sym, refl, ap, ◌∙◌, arith, length-take-le}
 use Rattle.modbus.specs.Hex.{spelt}
 use Rattle.modbus.proofs.HexLaws.{length_spelt}
-use Rattle.modbus.specs.Paper.{byte_paper}
+use Rattle.modbus.specs.Paper.{paper}
 use Rattle.ascii.specs.Reading.{parsed_into}
 use Rattle.ascii.specs.Plain.{pair_values}
 use Rattle.ascii.proofs.SpeltLaws.{digits_spelt}
@@ -18,7 +18,7 @@ read : (p : After-parse_text)
     → let f = spelt p.args.hex p.args.frame.now in
     Lined f
     × (254 ≤ length p.args.raw.now)
-    × (◌≡◌ {A = (ℕ × ℕ) × List ℕ} (byte_paper p.parse_text.result, p.parse_text.new.frame_buf) (parsed_into f (length f - 2) p.args.raw.now 0))
+    × (◌≡◌ {A = (ℕ × ℕ) × List ℕ} (paper p.parse_text.result, p.parse_text.new.frame_buf) (parsed_into f (length f - 2) p.args.raw.now 0))
 read p = (
   lined_spelt _ p.args.frame.now (is_lined p.args.frame.now _ p.is_line.ensures p.if-not-is_line.false),
   omega (arith, p.well_formed),
@@ -53,30 +53,31 @@ returns-then-n-frame c =
     let (h, fits, e) = read (goal.at.returns-then-n-frame c).After-parse_text in
     let a = c.args in
     let line = spelt a.hex a.frame.now in
-    let t = text_cut line a.raw.now _ _ h fits e _ c.in-Value.is (λ z. c.if-n-frame.true (z ∙ length_spelt _ a.frame.now)) in
+    let t = text_cut line a.raw.now _ _ h fits e _ c.in-Ok.is (λ z. c.if-n-frame.true (z ∙ length_spelt _ a.frame.now)) in
     record { value = t.0; fronted = t.1; raw_len_unchanged = decoded_kept line a.raw.now _ c.parse_text.result h fits e }
 
-pub check_lrc-requires-in-Value : goal.check_lrc-requires-in-Value
-check_lrc-requires-in-Value c =
-    let (h, fits, e) = read (goal.at.check_lrc-requires-in-Value c).After-parse_text in
+pub check_lrc-requires-2 : goal.check_lrc-requires-2
+check_lrc-requires-2 c =
+    let (h, fits, e) = read (goal.at.check_lrc-requires-2 c).After-parse_text in
     let a = c.args in
     let line = spelt a.hex a.frame.now in
-    text_within line a.raw.now _ _ h fits e _
-    c.in-Value.is (c.if-n-frame.false ∙ sym (length_spelt _ a.frame.now))
+    let w = text_within line a.raw.now _ _ h fits e _ c.in-Ok.is (c.if-n-frame.false ∙ sym (length_spelt _ a.frame.now)) in
+    let k = length-take-le _ _ w.1 in
+    (omega (arith, w.0, k), omega (arith, k))
 
-pub returns-in-Refused : goal.returns-in-Refused
-returns-in-Refused c =
-    let (h, fits, e) = read (goal.at.returns-in-Refused c).After-parse_text in
+pub returns-in_default : goal.returns-in_default
+returns-in_default c =
+    let (h, fits, e) = read (goal.at.returns-in_default c).After-parse_text in
     let a = c.args in
     let line = spelt a.hex a.frame.now in
-    let t = text_refused line a.raw.now _ _ h fits e _ c.in-Refused.is in
+    let t = text_refused line a.raw.now _ _ h fits e _ c.in_default.is in
     record { value = t.0; fronted = t.1; raw_len_unchanged = decoded_kept line a.raw.now _ c.parse_text.result h fits e }
 
-pub returns-else-n-frame : goal.returns-else-n-frame
-returns-else-n-frame c =
-    let (h, fits, e) = read (goal.at.returns-else-n-frame c).After-parse_text in
+pub returns : goal.returns
+returns c =
+    let (h, fits, e) = read (goal.at.returns c).After-parse_text in
     let a = c.args in
     let line = spelt a.hex a.frame.now in
-    let t = text_read line a.raw.now _ _ h fits e _ c.in-Value.is
-    (c.if-n-frame.false ∙ sym (length_spelt _ a.frame.now)) _ c.check_lrc-in-Value.ensures in
+    let t = text_read line a.raw.now _ _ h fits e _ c.in-Ok.is
+    (c.if-n-frame.false ∙ sym (length_spelt _ a.frame.now)) _ c.check_lrc-2.ensures in
     record { value = t.0; fronted = t.1; raw_len_unchanged = decoded_kept line a.raw.now _ c.parse_text.result h fits e }
