@@ -16,7 +16,7 @@ use Rattle.modbus.proofs.BytesLaws.{sets_append}
 use Rattle.response.specs.Bounded.{extended}
 use Rattle.response.proofs.BoundedLaws.{extended_put}
 use Rattle.driver.specs.Driven.{Call, framing, called}
-use Rattle.collector.specs.declared.Closed.TheVariants.{Nothing}
+use Rattle.std.specs.Prelude.{None}
 use Rattle.collector.specs.Collected.{held_in, holding, offered, emptied, refusing, rtu_called, quieting, served, closing, quieted}
 use Rattle.collector.proofs.PartLaws.{take_more, sets_own, sets_set}
 
@@ -133,7 +133,7 @@ module _ (l : Call) where
 -- ---- the quiet signal
 
 module _ (s : List ℕ) (l : Call) where
-  pub quiet_nothing : held_in s ≡ [] → quieted s l ≡ quieting Nothing l.reply l.tables.coil_bytes l.tables.holding_bytes s
+  pub quiet_nothing : held_in s ≡ [] → quieted s l ≡ quieting None l.reply l.tables.coil_bytes l.tables.holding_bytes s
   quiet_nothing e = ap (closing s l) e
 
   pub quiet_served : (f : List ℕ) → held_in s ≡ f → 1 ≤ length f → quieted s l ≡ served s (rtu_called (framing l f))

@@ -15,7 +15,7 @@ use Rattle.modbus.specs.Drive.{spelled, judge}
 use Rattle.modbus.specs.declared.ModbusProto.{ModbusProto}
 use Rattle.modbus.specs.declared.ModbusProto.TheVariants.{Rtu}
 use Rattle.modbus.proofs.StepLaws.{fail}
-use Rattle.transports.specs.Opened.{opened}
+use Rattle.transports.specs.declared.Fault.TheVariants.{Broken}
 use Rattle.driver.specs.Driven.{Call, framing, setup_of, settled, called}
 use Rattle.driver.proofs.CallLaws.{bad_called, roomless_called, unopened_called}
 use Rattle.collector.specs.Collected.{refusing, rtu_called}
@@ -56,4 +56,4 @@ module _ (l : Call) where
       by (yes z) (yes v) (no r) = inr (inl (rtu_driven l z ∙ sym (roomless_called l v r)))
       by (yes z) (yes v) (yes r) =
           let e = subst (λ (p : ModbusProto). unwrap p (spelled_in p l.numbers.hex l.frame) ≡ stop frame_broken_quiet) (sym (ap proto_of z)) (too_long l.frame h) in
-          inr (inr (rtu_driven l z ∙ sym (unopened_called l v r 0 (sym (ap opened e)) (omega arith))))
+          inr (inr (rtu_driven l z ∙ sym (unopened_called l v r Broken e)))

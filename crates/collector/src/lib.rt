@@ -18,19 +18,10 @@ const STATE: usize = 259;
 
 const MOST: usize = 257;
 
-// What a state holds.
-#[derive(Clone, Copy)]
-pub enum Held {
-    Bytes(usize),
-    Nothing,
-}
+// Document 01's outcomes without a frame of our own: another transport, and nothing held.
+const BAD_SETUP: u8 = 10;
 
-// What a quiet signal does: nothing where nothing is held.
-#[derive(Clone, Copy)]
-pub enum Closed {
-    Nothing,
-    Served(Driven),
-}
+const NOTHING_HELD: u8 = 13;
 
 // How many bytes are held.
 fn count_of(state: &[u8]) -> usize
@@ -61,17 +52,18 @@ pub fn offer(state: &mut [u8], bytes: &[u8]) -> SizeAnswer
     SizeAnswer::Value(count)
 }
 
-fn waiting(state: &[u8]) -> Held
+// How many bytes wait to be served, if any.
+fn waiting(state: &[u8]) -> Option<usize>
     ensures { Waits state.now result }
 {
     if state.len() < STATE {
-        return Held::Nothing;
+        return None;
     }
     let n = count_of(state);
     if n == 0 {
-        return Held::Nothing;
+        return None;
     }
-    Held::Bytes(n)
+    Some(n)
 }
 
 // Nothing is sent, and no cell written.
@@ -106,13 +98,14 @@ fn serve(
         coils.old discretes.now holdings.old inputs.now frame.now reply.old) }
 {
     if setup.transport != RTU {
-        return refused(10);
+        return refused(BAD_SETUP);
     }
     driver::drive(
         setup, list, coils, discretes, holdings, inputs, frame, reply,
     )
 }
 
+// A quiet signal: what became of the frame that is held, and nothing where none is.
 pub fn quiet(
     setup: Setup,
     list: &[u8],
@@ -122,12 +115,12 @@ pub fn quiet(
     inputs: &[u8],
     state: &mut [u8],
     reply: &mut [u8],
-) -> Closed
+) -> Option<Driven>
     ensures { quieting result reply.new coils.new holdings.new state.new ≡ quieted state.old
         (lending setup list.now coils.old discretes.now holdings.old inputs.now [] reply.old) }
 {
-    let Held::Bytes(n) = waiting(state) else {
-        return Closed::Nothing;
+    let Some(n) = waiting(state) else {
+        return None;
     };
     let end = n + 2;
     let driven = serve(
@@ -142,15 +135,12 @@ pub fn quiet(
     );
     state[0] = 0;
     state[1] = 0;
-    Closed::Served(driven)
+    Some(driven)
 }
 
-// The same in numbers: NothingHeld is outcome 13.
-pub fn outcome_of(closed: Closed) -> Driven
+// The same in numbers.
+pub fn outcome_of(closed: Option<Driven>) -> Driven
     ensures { result ≡ closed_paper closed }
 {
-    match closed {
-        Closed::Nothing => refused(13),
-        Closed::Served(driven) => driven,
-    }
+    closed.unwrap_or(refused(NOTHING_HELD))
 }

@@ -3,7 +3,7 @@
 use mathlib.Core.Path.{◌≡◌, sym, ap, ◌∙◌}
 use mathlib.Core.List.{List, []}
 use Rattle.std.specs.Prelude.{Err}
-use Prim.Native.Nat.{ℕ, ◌+◌, ◌<◌}
+use Prim.Native.Nat.{ℕ}
 use Rattle.modbus.specs.Step.{stop, go}
 use Rattle.modbus.specs.Table.{coils, discretes, holdings, inputs}
 use Rattle.modbus.specs.Setup.{Setup, proto, Valid, Roomy}

@@ -23,7 +23,8 @@ use Rattle.driver.specs.declared.Driven.{Driven}
 use Rattle.driver.specs.Driven.{lent_in, Call, lending, setup_of, leaving}
 use Rattle.driver.specs.Serving.{Counted, Sized, Ready, telling, result_by, serving, Laid, laying, laid, closing, handled}
 use Rattle.driver.proofs.CloseLaws.{tag_length_law, closes}
-use Rattle.driver.proofs.SettleLaws.{judged_ready, settles, brief}
+use Rattle.driver.proofs.ReadyLaws.{brief}
+use Rattle.driver.proofs.SettleLaws.{judged_ready, settles}
 
 -- the longest body has room from its start on
 pub start_room : (p : ModbusProto) (reply : List ℕ) → room_for p ≤ length reply → start_of p + 253 ≤ length reply

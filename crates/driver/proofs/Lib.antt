@@ -5,6 +5,7 @@ pub mod ReadLaws
 pub mod OpenLaws
 pub mod CloseLaws
 pub mod StoreLaws
+pub mod ReadyLaws
 pub mod SettleLaws
 pub mod HandleLaws
 pub mod CallLaws

@@ -2,14 +2,20 @@
 -- inside and there is room.
 -- Assumes nothing.
 use mathlib.Core.Path.{◌≡◌, refl, sym, ap, ap₂, ◌∙◌}
-use mathlib.Core.List.{List, [], ◌∷◌}
+use mathlib.Core.List.{List, [], ◌∷◌, ◌++◌}
+use borrow.Rule.Slice.PartMut.{put_mid}
+use Rattle.std.proofs.lemmas.Slice.{put_mid-paste}
 use Prim.Native.Nat.{ℕ, suc, ◌+◌, ◌-◌, ◌*◌, ◌/◌, ◌≤◌, ◌<◌}
 use native.Mathlib.Omega.{arith}
 use lib.ListN.{length, take, drop, set, length-drop}
-use lib.Seq.{sets, length-take-le}
+use lib.Seq.{sets, sets-eq, take_all, length-take-le}
 use Rattle.modbus.specs.Table.{word, part}
 use Rattle.modbus.specs.Request.{octets, shown}
-use Rattle.modbus.specs.Paper.{told_with}
+use Rattle.modbus.specs.Paper.{told_with, paper_by}
+use Rattle.modbus.specs.declared.ErrorKind.{ErrorKind}
+use Rattle.modbus.specs.declared.ErrorKind.TheVariants.{OOB, OOBContext, FrameBroken, FrameCRCError, IllegalDataValue, ReadCallOnWriteFrame, WriteCallOnReadFrame}
+use Rattle.std.specs.Prelude.{Result, Ok, Err}
+use Rattle.std.specs.Result.{IsOk}
 use Rattle.modbus.specs.Bytes.{word_at}
 use Rattle.modbus.specs.Storage.{Storage, registers, register_at, put_register, Sound, store, values}
 use Rattle.modbus.proofs.StepLaws.{pass}
@@ -39,10 +45,36 @@ pub put_behind : (reply : List ℕ) (start x y z : ℕ) (d h o : List ℕ) → h
 put_behind reply start x y z d h o e f =
     f ∙ ap (λ (l : List ℕ). sets l (start + 3) d) e ∙ sym (sets_append (x ∷ y ∷ z ∷ []) d reply start (start + 3) (omega arith))
 
+-- a part of the reply written over
+pub part_put : (start n : ℕ) (reply l m : List ℕ) → m ≡ l → length l ≡ n → start + n ≤ length reply → put_mid start n reply m ≡ sets reply start l
+part_put start n reply l m e f h =
+    put_mid-paste start n reply m l n e refl (sym f) ∙ ap (λ (d : List ℕ). take start reply ++ d ++ drop (start + n) reply) (take_all n l (omega arith))
+    ∙ ap (λ (i : ℕ). take start reply ++ l ++ drop (start + i) reply) (sym f) ∙ sym (sets-eq l reply start (omega (arith, f)))
+
 -- ---- the calls
 
 abbrev Told : Type 0
 Told = (ℕ × ℕ) × List ℕ
+
+-- an answer of number 0 holds
+pub holds_by : {A : Type 0} (f : A → ℕ) (r : Result A ErrorKind) → (paper_by f r).0 ≡ 0 → IsOk r
+holds_by f (Ok v) e = refl
+holds_by f (Err OOB) e = absurd (omega arith)
+holds_by f (Err OOBContext) e = absurd (omega arith)
+holds_by f (Err FrameBroken) e = absurd (omega arith)
+holds_by f (Err FrameCRCError) e = absurd (omega arith)
+holds_by f (Err IllegalDataValue) e = absurd (omega arith)
+holds_by f (Err ReadCallOnWriteFrame) e = absurd (omega arith)
+holds_by f (Err WriteCallOnReadFrame) e = absurd (omega arith)
+
+number_of : Told → ℕ
+number_of t = t.0.0
+
+pub extend_done : (x : ℕ × ℕ) (o out : List ℕ) (len : ℕ) (l : List ℕ) → ◌≡◌ {A = Told} (x, o) (told_with out (extended out len l))
+    → len + length l ≤ length out → x.0 ≡ 0
+unfolding extended number_of
+extend_done x o out len l e room =
+    ap number_of (e ∙ ap (told_with out) (pass _ _ _ (omega arith) ∙ pass _ _ _ room))
 
 pub extend_put : (x : ℕ × ℕ) (o out : List ℕ) (len : ℕ) (l : List ℕ) → ◌≡◌ {A = Told} (x, o) (told_with out (extended out len l))
     → len + length l ≤ length out → o ≡ sets out len l
@@ -56,6 +88,23 @@ module _ (S : Storage) (l : List ℕ) (cells : ℕ) (sound : Sound S l cells) (x
   added_put reg count out len e h room =
       ap (λ (t : Told). t.1)
       (e ∙ ap (told_with out) (added_inside S l cells reg count out len (rw (size_sound S l cells sound) h) room))
+
+  pub added_done : (reg count : ℕ) (out : List ℕ) (len : ℕ) → ◌≡◌ {A = Told} (x, o) (told_with out (added S l cells reg count out len))
+      → reg + count ≤ cells → len + octets S.kind count ≤ length out → x.0 ≡ 0
+  unfolding number_of
+  added_done reg count out len e h room =
+      ap number_of (e ∙ ap (told_with out) (added_inside S l cells reg count out len (rw (size_sound S l cells sound) h) room))
+
+  pub stored_done : (reg count : ℕ) (d : List ℕ) → ◌≡◌ {A = Told} (x, o) (told_with l (stored S l cells reg count d)) → reg + count ≤ cells
+      → length d ≡ octets S.kind count → x.0 ≡ 0
+  unfolding number_of
+  stored_done reg count d e h n =
+      ap number_of (e ∙ ap (told_with l) (stored_inside S l cells reg count d (rw (size_sound S l cells sound) h) n))
+
+  pub changed_done : (n v : ℕ) → ◌≡◌ {A = Told} (x, o) (told_with l (changed S l cells n v)) → n < cells → x.0 ≡ 0
+  unfolding number_of
+  changed_done n v e h =
+      ap number_of (e ∙ ap (told_with l) (changed_inside S l cells n v (rw (size_sound S l cells sound) h)))
 
   pub stored_put : (reg count : ℕ) (d : List ℕ) → ◌≡◌ {A = Told} (x, o) (told_with l (stored S l cells reg count d)) → reg + count ≤ cells
       → length d ≡ octets S.kind count → o ≡ store S l reg (values S.kind count d)
@@ -81,6 +130,15 @@ words_put l cells sound x o b from reg count e h k =
     let z : (from + 2 * count) - from ≡ 2 * count = omega arith in
     let n : length d ≡ 2 * count = length-take-le _ _ (simp length-drop (omega arith)) in
     stored_put registers l cells sound x o reg count d ((rw z at e) ∙ ap (told_with l) (stored_whole_law l cells reg count d n)) h n
+
+pub words_done : (l : List ℕ) (cells : ℕ) → Sound registers l cells → (x : ℕ × ℕ) (o b : List ℕ) (from reg count : ℕ)
+    → ◌≡◌ {A = Told} (x, o) (told_with l (stored_whole l cells reg (take ((from + 2 * count) - from) (drop from b)))) → reg + count ≤ cells
+    → from + 2 * count ≤ length b → x.0 ≡ 0
+words_done l cells sound x o b from reg count e h k =
+    let d = take (2 * count) (drop from b) in
+    let z : (from + 2 * count) - from ≡ 2 * count = omega arith in
+    let n : length d ≡ 2 * count = length-take-le _ _ (simp length-drop (omega arith)) in
+    stored_done registers l cells sound x o reg count d ((rw z at e) ∙ ap (told_with l) (stored_whole_law l cells reg count d n)) h n
 
 -- a single register
 pub single_word : (l b : List ℕ) (c : Cells) → c.at ≡ 4 → c.count ≡ 1 → 6 ≤ length b

@@ -4,14 +4,14 @@ use mathlib.Core.Bool.{Bool, true, false}
 use mathlib.Core.Logic.{◌⊎◌, inl, inr, ⊎_elim, by_cases}
 use mathlib.Core.Path.{◌≡◌, refl, sym, ap, ap₂, subst, ◌∙◌}
 use mathlib.Core.List.{List, [], ◌∷◌}
-use Rattle.std.specs.Prelude.{Option, None, Some, Ok, Err}
+use Rattle.std.specs.Prelude.{Ok, Err}
 use Prim.Native.Nat.{ℕ, ◌*◌, ◌≤◌, ◌<◌}
 use native.Mathlib.Omega.{arith}
-use lib.ListN.{length, take, drop, get_or, length-take, length-drop}
+use lib.ListN.{length, take, drop, get_or, length-drop}
 use lib.Seq.{sets, take-length}
 use Rattle.modbus.specs.Step.{stop, go, choose, ◌≟◌, ◌or?◌}
-use Rattle.modbus.specs.Table.{Kind, bit, word, Tab, coils, discretes, holdings, inputs, kind_of, target, part}
-use Rattle.modbus.specs.Request.{reads, mask, code, tab_of, Ask, read, write, writes, masks, swaps, octets, shown, writing, answer, seen, found, apply}
+use Rattle.modbus.specs.Table.{Kind, bit, word, Tab, coils, holdings, target}
+use Rattle.modbus.specs.Request.{mask, tab_of, Ask, read, write, writes, masks, swaps, writing, answer, seen, found, apply}
 use Rattle.modbus.specs.Setup.{Setup, proto}
 use Rattle.modbus.specs.Unit.{listed?, Broadcast, broadcast?, Ours}
 use Rattle.modbus.specs.Decode.{Message, Silent, read_ignored_quiet, foreign, frame_broken_quiet, frame_check_quiet, wrong_length_quiet, bad_function_quiet, no_room_quiet, bad_setup_quiet, asked}
@@ -21,10 +21,9 @@ use Rattle.modbus.proofs.WeighLaws.{Alike, weigh_coded_alike, by_alike}
 use Rattle.modbus.proofs.BytesLaws.{bytes_by}
 use Rattle.modbus.proofs.RequestLaws.{asked_says}
 use Rattle.modbus.proofs.StorageLaws.{length_part}
-use Rattle.modbus.proofs.AnswerLaws.{length_shown}
 use Rattle.modbus.specs.Storage.{registers, register_at, Sound, storage, store, values}
 use Rattle.tables.specs.Lent.{Lent, table_of, tables_of}
-use Rattle.requests.specs.Judged.{On, on?, Verdict, quiet_by, refused_by, code_number, spoken, weighed, kept, kept_by, judged}
+use Rattle.requests.specs.Judged.{On, on?, Verdict, quiet_by, refused_by, code_number, weighed, kept, kept_by, judged}
 use Rattle.requests.specs.declared.ReadCells.{ReadCells}
 use Rattle.requests.specs.declared.Cells.{Cells}
 use Rattle.requests.specs.declared.Mask.{Mask}
@@ -35,62 +34,12 @@ use Rattle.requests.specs.declared.Code.TheVariants.{IllegalFunction, IllegalDat
 use Rattle.requests.specs.declared.Refusal.{Refusal}
 use Rattle.requests.specs.declared.Refusal.TheVariants.{Foreign}
 use Rattle.requests.proofs.JudgedLaws.{on, off, tab_of_law}
-use Rattle.requests.proofs.FineLaws.{FineRead, FineWrite, FineMask, FineBoth, Told, Fine, fine}
+use Rattle.requests.proofs.FineLaws.{FineRead, FineWrite, FineMask, FineBoth, Fine, fine}
 use Rattle.driver.specs.Driven.{Call, setup_of, bytes_after, result_of, Leaves, leaving, settled}
-use Rattle.driver.specs.Serving.{Sized, SaysReady, Ready, data_of, masked_by, swapped_by, echoed, done_by, Telling, tells, telling, Turn, turn, saying, serving}
-use Rattle.driver.proofs.ReadLaws.{octets_most}
+use Rattle.driver.specs.Serving.{Sized, Ready, data_of, masked_by, echoed, done_by, Telling, tells, telling, Turn, turn, serving}
 use Rattle.driver.proofs.StoreLaws.{stored_target, stored_other, found_after, echoes, mask_echoes}
 use Rattle.driver.proofs.CloseLaws.{closed}
-
--- ---- a verdict is ready to be carried out
-
-read_range : (t : Tab) → (1 ≤ code (reads t)) × (code (reads t) ≤ 4)
-read_range coils = omega arith
-read_range discretes = omega arith
-read_range holdings = omega arith
-read_range inputs = omega arith
-
-told_ready : (b : List ℕ) (o : Option Code) → Told b o → 2 ≤ length b → SaysReady b o
-told_ready b None f h = tt
-told_ready b (Some c) f h = (h, f)
-
-said_brief : (b : List ℕ) (o : Option Code) → length (saying b o) ≤ 253
-said_brief b None = omega arith
-said_brief b (Some c) = omega arith
-
-module _ (lent : Call) (x : Bool) (b : List ℕ) where
-  pub ready : (v : Verdict) → Fine (setup_of lent) x b v → 2 ≤ length b → Ready lent.tables b v
-  ready (Ok (request.Read q)) f h =
-      let e : tab_of q.function ≡ f.tab = ap tab_of f.function ∙ tab_of_law f.tab in
-      let r = read_range f.tab in
-      record { numbered = f.numbered ∙ sym f.function; first = rw f.function r.0; last = rw f.function r.1; most = rw e f.most; inside = rw e f.inside; whole = h }
-  ready (Ok (request.WriteBits c)) f h = record { inside = f.inside; held = f.held; single = f.single; whole = f.whole }
-  ready (Ok (request.WriteWords c)) f h = record { inside = f.inside; held = f.held; single = f.single; whole = f.whole }
-  ready (Ok (request.Mask m)) f h = record { inside = f.inside; whole = omega (arith, f.whole) }
-  ready (Ok (request.Exchange x)) f h = record { most = f.most; inside = f.inside; within = f.within; held = omega (arith, f.held) }
-  ready (Err r) f h = told_ready b (spoken r) f.1 h
-
-shown_length : (k : Kind) (s n : ℕ) (f : ℕ → ℕ) → length (shown k (part f s n)) ≡ octets k n
-shown_length k s n f = length_shown k (part f s n) ∙ ap (octets k) (length_part f s n)
-
--- and its reply's body fits every frame
-pub brief : (l : Lent) (x : Bool) (b : List ℕ) (v : Verdict) → Ready l b v → length (serving l x b v).body ≤ 253
-brief l x b (Ok (request.Read q)) r =
-    let t = tab_of q.function in
-    omega (arith, octets_most (kind_of t) q.count r.most, shown_length (kind_of t) q.address q.count (tables_of l t))
-brief l true b (Ok (request.WriteBits c)) r = omega arith
-brief l false b (Ok (request.WriteBits c)) r = simp length-take (omega arith)
-brief l true b (Ok (request.WriteWords c)) r = omega arith
-brief l false b (Ok (request.WriteWords c)) r = simp length-take (omega arith)
-brief l true b (Ok (request.Mask m)) r = omega arith
-brief l false b (Ok (request.Mask m)) r = simp length-take (omega arith)
-brief l x b (Ok (request.Exchange y)) r =
-    omega (
-      arith,
-      octets_most word y.read_count r.most,
-      shown_length word y.read_address y.read_count (register_at (swapped_by y b l.holding_bytes)),
-    )
-brief l x b (Err y) r = said_brief b (spoken y)
+use Rattle.driver.proofs.ReadyLaws.{ready}
 
 -- ---- whom the unit number means
 

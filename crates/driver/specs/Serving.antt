@@ -196,6 +196,6 @@ abbrev pub handled : Call → List ℕ → List ℕ → Leaves
 handled l tag b = settled l (from_unit (setup_of l) (record { tag = tag; body = b }))
 
 -- a refusal before there is a body tells its outcome and code, and nothing is sent
-abbrev pub driven_by : Result Driven Refusal → Driven
-driven_by (Ok d) = d
+abbrev pub driven_by : Result (ℕ × ℕ) Refusal → Driven
+driven_by (Ok (told, sent)) = unpacked told sent
 driven_by (Err r) = resulting (refusal_paper r).0 (refusal_paper r).2 0 []

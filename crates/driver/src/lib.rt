@@ -14,7 +14,7 @@ ghost use Rattle.modbus.specs.Setup.{room_for};
 ghost use Rattle.driver.specs.Driven.{lent_in, lending, leaving, called};
 ghost use Rattle.requests.specs.Judged.{quiet_by};
 ghost use Rattle.transports.specs.Opened.{fault_of};
-ghost use Rattle.driver.specs.Serving.{Sized, handled, driven_by};
+ghost use Rattle.driver.specs.Serving.{Sized, unpacked, handled, driven_by};
 
 use close::close;
 use judge::{judge, listed};
@@ -51,7 +51,7 @@ pub struct Driven {
     pub count: u16,
 }
 
-// A frame that is opened, to this body; `start` is where a body starts in the transport's frames. One call of each stage, which the compiler then
+// A frame that is opened, to this body: what is told, and the length of the reply; `start` is where a body starts in the transport's frames. One call of each stage, which the compiler then
 // writes in place.
 fn handle(
     setup: Setup,
@@ -64,10 +64,10 @@ fn handle(
     frame: &[u8],
     reply: &mut [u8],
     start: usize,
-) -> Driven
+) -> (u64, usize)
     requires in_bounds { (2 ≤ length body.now) × (start ≡ start_of (proto_of setup.transport)) × (room_for (proto_of setup.transport) ≤ length reply.old) × (2 ≤ length frame.now) }
     requires sized { Sized (lent_in setup coils.old discretes.now holdings.old inputs.now) }
-    ensures { leaving result reply.new coils.new holdings.new ≡ handled (lending setup list.now
+    ensures { leaving (unpacked result.0 result.1) reply.new coils.new holdings.new ≡ handled (lending setup list.now
         coils.old discretes.now holdings.old inputs.now frame.now reply.old)
         (tag_of (proto_of setup.transport) (get_or frame.now 0 0) (get_or frame.now 1 0)) body.now }
 {
@@ -77,7 +77,7 @@ fn handle(
         verdict, broadcast, setup, body, coils, discretes, holdings, inputs, reply, start,
     );
     let sent = close(setup.transport, n, frame, reply);
-    result(told, sent)
+    (told, sent)
 }
 
 // Why a frame has no body.
@@ -100,7 +100,7 @@ fn run(
     inputs: &[u8],
     frame: &[u8],
     reply: &mut [u8],
-) -> Result<Driven, Refusal>
+) -> Result<(u64, usize), Refusal>
     ensures { leaving (driven_by result) reply.new coils.new holdings.new ≡ called (lending setup list.now
         coils.old discretes.now holdings.old inputs.now frame.now reply.old) }
 {
@@ -148,7 +148,7 @@ pub fn drive(
         setup, list, coils, discretes, holdings, inputs, frame, reply,
     );
     match driven {
-        Ok(driven) => driven,
+        Ok((told, sent)) => result(told, sent),
         Err(refusal) => result(refused(refusal), 0),
     }
 }

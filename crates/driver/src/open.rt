@@ -1,5 +1,5 @@
 // The first stage, before a frame is opened: whether the setup is good, and whether there is room for the reply.
-ghost use Rattle.std.specs.Prelude.{◌≡◌, ◌≤◌, MatchResult, IsTrue, ◌↔◌};
+ghost use Rattle.std.specs.Prelude.{◌≡◌, ◌≤◌, MatchResult, true, false};
 ghost use Rattle.modbus.specs.Paper.{proto_of};
 ghost use Rattle.modbus.specs.Setup.{room_for};
 ghost use Rattle.requests.specs.declared.Refusal.TheVariants.{FrameBroken, NoRoom, BadSetup};
@@ -9,25 +9,25 @@ use crate::Setup;
 use requests::Refusal;
 use transports::Fault;
 
-// Whether no table is said to have too many cells.
-fn few_cells(setup: Setup) -> bool
-    ensures { IsTrue result ↔ Few setup }
+// Whether a table is said to have too many cells.
+fn many_cells(setup: Setup) -> bool
+    ensures { (result ≡ true → ¬ Few setup) × (result ≡ false → Few setup) }
 {
-    setup.coil_cells <= 65536
-        && setup.discrete_cells <= 65536
-        && setup.holding_cells <= 65536
-        && setup.input_cells <= 65536
+    65536 < setup.coil_cells
+        || 65536 < setup.discrete_cells
+        || 65536 < setup.holding_cells
+        || 65536 < setup.input_cells
 }
 
-// Whether each table's slice is long enough for its cells.
-fn long_slices(setup: Setup, coils: usize, discretes: usize, holdings: usize, inputs: usize) -> bool
+// Whether a table's slice is too short for its cells.
+fn few_bytes(setup: Setup, coils: usize, discretes: usize, holdings: usize, inputs: usize) -> bool
     requires { Few setup }
-    ensures { IsTrue result ↔ Long setup coils discretes holdings inputs }
+    ensures { (result ≡ true → ¬ Long setup coils discretes holdings inputs) × (result ≡ false → Long setup coils discretes holdings inputs) }
 {
-    (setup.coil_cells + 7) / 8 <= coils
-        && (setup.discrete_cells + 7) / 8 <= discretes
-        && 2 * setup.holding_cells <= holdings
-        && 2 * setup.input_cells <= inputs
+    coils < (setup.coil_cells + 7) / 8
+        || discretes < (setup.discrete_cells + 7) / 8
+        || holdings < 2 * setup.holding_cells
+        || inputs < 2 * setup.input_cells
 }
 
 // BadSetup, by these numbers and by slices of these lengths.
@@ -40,10 +40,10 @@ pub(crate) fn check_setup(
 ) -> Result<(), Refusal>
     ensures { MatchResult result (λ done. Good setup coils discretes holdings inputs) (λ refusal. (refusal ≡ BadSetup) × (¬ Good setup coils discretes holdings inputs)) }
 {
-    if 2 < setup.transport || 1 < setup.hex || !few_cells(setup) {
+    if 2 < setup.transport || 1 < setup.hex || many_cells(setup) {
         return Err(Refusal::BadSetup);
     }
-    if !long_slices(setup, coils, discretes, holdings, inputs) {
+    if few_bytes(setup, coils, discretes, holdings, inputs) {
         return Err(Refusal::BadSetup);
     }
     Ok(())

@@ -51,7 +51,7 @@ fn echo(body: &[u8], n: usize, reply: &mut [u8], start: usize) -> usize
     requires { (n ≤ length body.now) × (start + n ≤ length reply.old) }
     ensures { (result, reply.new) ≡ put_at start reply.old (take n body.now) }
 {
-    extend(reply, start, &body[0..n]);
+    reply[start..start + n].copy_from_slice(&body[..n]);
     n
 }
 
@@ -61,7 +61,7 @@ fn read_words(body: &[u8], count: u16, part: &[u8], reply: &mut [u8], start: usi
     ensures { (result, reply.new) ≡ put_at start reply.old (get_or body.now 0 0 ∷ get_or body.now 1 0 ∷ (2 * count) ∷ part.now) }
 {
     let n = head(body, 2 * (count as usize), reply, start);
-    extend(reply, start + 3, part);
+    extend(reply, start + 3, part).unwrap();
     n
 }
 
@@ -84,7 +84,7 @@ fn read<'a>(
     match body[1] {
         1 => {
             let n = head(body, (q.count as usize + 7) / 8, reply, start);
-            get_coils_as_u8(coils, setup.coil_cells, q.address, q.count, reply, at);
+            get_coils_as_u8(coils, setup.coil_cells, q.address, q.count, reply, at).unwrap();
             n
         }
         2 => {
@@ -96,7 +96,8 @@ fn read<'a>(
                 q.count,
                 reply,
                 at,
-            );
+            )
+            .unwrap();
             n
         }
         _ => {
@@ -120,7 +121,7 @@ fn write_bits(c: Cells, cells: usize, body: &[u8], coils: &mut [u8])
 {
     let at = c.at as usize;
     let end = at + (c.count as usize + 7) / 8;
-    set_coils_from_u8(coils, cells, c.address, c.count, &body[at..end]);
+    set_coils_from_u8(coils, cells, c.address, c.count, &body[at..end]).unwrap();
 }
 
 // A single register goes its own way, which costs less.
@@ -130,11 +131,11 @@ fn write_words(c: Cells, cells: usize, body: &[u8], holdings: &mut [u8])
 {
     let at = c.at as usize;
     if at == 4 {
-        set_holding(holdings, cells, c.address, word(body, 4));
+        set_holding(holdings, cells, c.address, word(body, 4)).unwrap();
         return;
     }
     let end = at + 2 * (c.count as usize);
-    set_holdings_from_u8(holdings, cells, c.address, &body[at..end]);
+    set_holdings_from_u8(holdings, cells, c.address, &body[at..end]).unwrap();
 }
 
 // A single register changes where its AND mask has zeros, to what the OR mask has there.
@@ -144,7 +145,7 @@ fn write_mask(m: Mask, cells: usize, holdings: &mut [u8])
 {
     let old = word(holdings, 2 * (m.address as usize));
     let value = (old & m.and_mask) | (m.or_mask & !m.and_mask);
-    set_holding(holdings, cells, m.address, value);
+    set_holding(holdings, cells, m.address, value).unwrap();
 }
 
 // The write comes first, and the reply is read off what it left.
@@ -160,7 +161,7 @@ fn exchange(
     ensures { ((result, reply.new) ≡ put_at start reply.old (swap_body x body.now holdings.old)) × (holdings.new ≡ swapped_by x body.now holdings.old) }
 {
     let from = 11 + 2 * (x.write_count as usize);
-    set_holdings_from_u8(holdings, cells, x.write_address, &body[11..from]);
+    set_holdings_from_u8(holdings, cells, x.write_address, &body[11..from]).unwrap();
     let at = 2 * (x.read_address as usize);
     let end = at + 2 * (x.read_count as usize);
     read_words(body, x.read_count, &holdings[at..end], reply, start)

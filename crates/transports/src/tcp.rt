@@ -14,8 +14,11 @@ pub fn open_tcp(frame: &[u8]) -> Result<usize, Fault>
     if frame.len() < 8 || 260 < frame.len() {
         return Err(Fault::Broken);
     }
-    let n = frame.len() - 6;
-    if word(frame, 2) != 0 || word(frame, 4) as usize != n {
+    if word(frame, 2) != 0 {
+        return Err(Fault::Broken);
+    }
+    let n = word(frame, 4) as usize;
+    if n + 6 != frame.len() {
         return Err(Fault::Broken);
     }
     Ok(n)

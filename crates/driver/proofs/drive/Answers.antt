@@ -8,4 +8,4 @@ use Rattle.driver.proofs.drive.Goals as goal
 pub returns-in-Err : goal.returns-in-Err
 returns-in-Err c =
     let n = c.run-driven.new in
-    ap (λ (d : Driven). leaving d n.reply n.coils n.holdings) (c.result.ensures ∙ c.refused.ensures 0) ∙ c.in-Err.ensures
+    ap (λ (d : Driven). leaving d n.reply n.coils n.holdings) (c.result-in-Err.ensures ∙ c.refused.ensures 0) ∙ c.in-Err.ensures

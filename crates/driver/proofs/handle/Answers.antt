@@ -1,6 +1,5 @@
 -- `driver::handle` meets its contract: what was judged, served and closed make up the call.
 -- Assumes nothing.
-use mathlib.Core.Path.{◌∙◌}
 use native.Mathlib.Omega.{arith}
 use Rattle.modbus.specs.Paper.{proto_of}
 use Rattle.driver.proofs.HandleLaws.{start_room, body_ready, served_brief, served_room, closed_handled}
@@ -36,4 +35,4 @@ returns c =
     let a = c.args in
     closed_handled a.setup a.list.now a.coils.now a.discretes.now a.holdings.now a.inputs.now a.frame.now a.reply.now a.body.now
     (λ i. omega (arith, c.shared_slice_known-2-1.given i)) c.requires.in_bounds.0 c.requires.sized _ c.listed-broadcast.ensures _ c.judge-verdict.ensures
-    a.start c.requires.in_bounds.1 _ _ _ _ c.serve-told.ensures.laid _ _ c.requires.in_bounds.2 _ _ c.close-sent.ensures _ (c.result.ensures ∙ c.serve-told.ensures.told _)
+    a.start c.requires.in_bounds.1 _ _ _ _ c.serve-told.ensures.laid _ _ c.requires.in_bounds.2 _ _ c.close-sent.ensures _ (c.serve-told.ensures.told _)

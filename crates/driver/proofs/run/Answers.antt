@@ -1,12 +1,8 @@
 -- `driver::run` meets its contract: a bad setup, no room, a frame that is none, and a frame that is opened.
 -- Assumes nothing.
-use mathlib.Core.Path.{ap, ◌∙◌}
-use Rattle.std.specs.Prelude.{Result}
+use mathlib.Core.Path.{◌∙◌}
 use Rattle.std.proofs.lemmas.Result.{err_from_is_err_and}
-use Rattle.requests.specs.declared.Refusal.{Refusal}
-use Rattle.driver.specs.declared.Driven.{Driven}
-use Rattle.driver.specs.Driven.{lending, leaving}
-use Rattle.driver.specs.Serving.{driven_by}
+use Rattle.driver.specs.Driven.{lending}
 use Rattle.driver.proofs.OpenLaws.{good_valid, valid_good}
 use Rattle.driver.proofs.CallLaws.{bad_called, roomless_called, unopened_called, opened_called}
 use Rattle.driver.proofs.run.Goals as goal

@@ -5,7 +5,6 @@ use mathlib.Core.List.{List}
 use Prim.Native.Nat.{ℕ}
 use lib.ListN.{get_or}
 use Rattle.std.specs.Prelude.{Option, Some}
-use Rattle.std.specs.Option.{IsSome}
 use Rattle.modbus.specs.Paper.{proto_of}
 use Rattle.modbus.specs.Frame.{tag_of}
 use Rattle.transports.proofs.SealedLaws.{sealed_room}

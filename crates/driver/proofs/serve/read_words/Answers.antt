@@ -5,8 +5,15 @@ use lib.ListN.{length, get_or}
 use lib.Seq.{length-sets}
 use mathlib.Core.List.{◌∷◌}
 use Prim.Native.Nat.{◌+◌, ◌*◌, ◌≤◌}
-use Rattle.driver.proofs.ReplyLaws.{put_at_law, put_behind, extend_put}
+use Rattle.driver.proofs.ReplyLaws.{holds_by, extend_done, put_at_law, put_behind, extend_put}
 use Rattle.driver.proofs.serve.read_words.Goals as goal
+
+pub unwrap-requires : goal.unwrap-requires
+unwrap-requires c =
+    let h = c.head-n in
+    let a = c.args in
+    let room : (a.start + 3) + length a.part.now ≤ length h.new.reply = rw h.ensures.1 (simp length-sets (omega (arith, c.requires))) in
+    holds_by _ c.extend.result (extend_done _ _ h.new.reply (a.start + 3) a.part.now c.extend.ensures room)
 
 pub returns : goal.returns
 returns c =

@@ -4,21 +4,21 @@ use Rattle.std.proofs.Common.{sym, ap, ◌∙◌, ⊎_elim, arith}
 use Rattle.transports.specs.Opened.{opened}
 use Rattle.transports.proofs.OpenedLaws.{tcp_broken, tcp_body, tcp_length}
 use Rattle.transports.proofs.tcp.open_tcp.Goals as goal
-use Rattle.transports.proofs.tcp.open_tcp.Goals.{then-word-ne0-via-then-word-ne0 as by-protocol, then-word-ne0-via-else-word-ne0+then-word-n as by-length}
 
 pub returns-then-frame-lt8 : goal.returns-then-frame-lt8
 returns-then-frame-lt8 c =
     sym (ap opened (tcp_broken _ (λ h. ⊎_elim (λ p. omega arith) (λ p. omega arith) c.then-frame-lt8.either)))
 
 pub returns-then-word-ne0 : goal.returns-then-word-ne0
-returns-then-word-ne0 c =
-    sym (ap opened (tcp_broken _ (λ h.
-    elim c.then-word-ne0.branch [ by-protocol w ↦ omega (arith, w.if-word-ne0.true, c.word.ensures, h) | by-length w ↦ omega (arith, w.if-word-n.true, w.word-else-word-ne0.ensures, h) ])))
+returns-then-word-ne0 c = sym (ap opened (tcp_broken _ (λ h. omega (arith, c.if-word-ne0.true, c.word.ensures, h))))
+
+pub returns-then-n-frame : goal.returns-then-n-frame
+returns-then-n-frame c = sym (ap opened (tcp_broken _ (λ h. omega (arith, c.if-n-frame.true, c.word-n.ensures, h))))
 
 pub returns : goal.returns
 returns c =
     let f = c.args.frame.now in
     let zero = c.word.ensures in
-    let long = c.word-else-word-ne0.ensures in
+    let long = c.word-n.ensures in
     tcp_length f _ (omega arith)
     ∙ sym (ap opened (tcp_body f (omega arith, (omega arith, (omega arith, (omega arith, omega arith))))))
