@@ -23,7 +23,8 @@ fn unasked(body: &[u8]) -> bool
     judge(body, false, 65536, 65536, 65536, 65536).is_err()
 }
 
-// The body, which is the head and then the data, goes to the frame's buffer from `start` on. Answers its length.
+// The body, which is the head and then the data, goes to the frame's buffer from `start` on, where the frame is then closed around it. Answers
+// its length.
 fn lay_parts(head: &[u8], data: &[u8], start: usize, frame: &mut [u8]) -> usize
     requires { start + length head.now + length «data».now ≤ length frame.old }
     ensures { (result ≡ length (head.now ++ «data».now)) × (length frame.new ≡ length frame.old) × (take result (drop start frame.new) ≡ head.now ++ «data».now) }
