@@ -59,11 +59,10 @@ fn add_room(frame: &mut ModbusFrame, bytes: u16, response: &mut [u8]) -> Result<
         (resized response.old frame.old.response_len (frame.old.response_len + bytes) 0) }
 {
     let at = frame.response_len;
-    let n = bytes as usize;
-    if usize::MAX - n < at {
+    let Some(end) = at.checked_add(bytes as usize) else {
         return Err(ErrorKind::OOB);
-    }
-    frame.response_len = response::resize(response, at, at + n, 0)?;
+    };
+    frame.response_len = response::resize(response, at, end, 0)?;
     Ok(at)
 }
 

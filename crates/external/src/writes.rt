@@ -76,9 +76,9 @@ fn data_len(frame: &ModbusFrame, buf: &[u8]) -> Result<usize, ErrorKind>
 fn index(buf: &[u8], start: usize, first: usize, end: usize) -> Result<(), ErrorKind>
     ensures { done_paper result ≡ told (indexed buf.now start first end) }
 {
-    if usize::MAX - first < start {
+    let Some(_) = start.checked_add(first) else {
         return Err(ErrorKind::OOB);
-    }
+    };
     if buf.len() < end || buf.len() - end < start {
         return Err(ErrorKind::FrameBroken);
     }

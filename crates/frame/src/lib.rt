@@ -46,7 +46,8 @@ impl TryFrom<u8> for ModbusFunction {
     }
 }
 
-// The crate's fields, and how many bytes of the lent slice are the response. Of an error only the exception's code is kept.
+// The crate's fields, and how many bytes of the lent slice are the response. Of an error only the exception's code is kept, and a number, since a
+// caller may give any.
 #[derive(Clone, Copy, PartialEq, Eq)]
 pub struct ModbusFrame {
     pub unit_id: u8,

@@ -15,10 +15,10 @@ use modbus::{ErrorKind, ModbusProto};
 pub fn reach(buf: &[u8], start: usize, n: usize) -> Result<(), ErrorKind>
     ensures { done_paper result ≡ told (reached buf.now start n) }
 {
-    if usize::MAX - n < start {
+    let Some(end) = start.checked_add(n) else {
         return Err(ErrorKind::OOB);
-    }
-    if buf.len() < start + n {
+    };
+    if buf.len() < end {
         return Err(ErrorKind::FrameBroken);
     }
     Ok(())

@@ -16,6 +16,7 @@ use modbus::{CellKind, ErrorKind};
 use reads::read;
 use writes::{write_many, write_one};
 
+// Each table is lent as document 01 lends it: its bytes, and how many cells it counts.
 pub fn process_read(
     frame: &mut ModbusFrame,
     buf: &[u8],

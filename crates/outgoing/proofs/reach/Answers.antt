@@ -6,11 +6,15 @@ use Rattle.modbus.specs.Paper.{told}
 use Rattle.outgoing.proofs.WayLaws.{reached_far, reached_beyond, reached_all}
 use Rattle.outgoing.proofs.reach.Goals as goal
 
-pub returns-then-n-start : goal.returns-then-n-start
-returns-then-n-start c = sym (ap told (reached_far _ _ _ (omega arith)))
+pub returns-in_default : goal.returns-in_default
+returns-in_default c = sym (ap told (reached_far _ _ _ (omega (arith, c.in_default.ensures))))
 
-pub returns-then-buf-start : goal.returns-then-buf-start
-returns-then-buf-start c = sym (ap told (reached_beyond _ _ _ (omega arith) (omega arith)))
+pub returns-then-buf-end : goal.returns-then-buf-end
+returns-then-buf-end c =
+    let h = c.in-Some.ensures in
+    sym (ap told (reached_beyond _ _ _ (omega (arith, h.0)) (omega (arith, h.1))))
 
 pub returns : goal.returns
-returns c = sym (ap told (reached_all _ _ _ (omega arith) (omega arith)))
+returns c =
+    let h = c.in-Some.ensures in
+    sym (ap told (reached_all _ _ _ (omega (arith, h.0)) (omega (arith, h.1))))

@@ -5,5 +5,5 @@ use native.Mathlib.Omega.{arith}
 use Rattle.external.proofs.ReadLaws.{room_none}
 use Rattle.external.proofs.reads.add_room.Goals as goal
 
-pub returns-then-n-at : goal.returns-then-n-at
-returns-then-n-at c = sym (room_none _ _ _ (omega arith))
+pub returns-in_default : goal.returns-in_default
+returns-in_default c = sym (room_none _ _ _ (omega (arith, c.in_default.ensures)))
