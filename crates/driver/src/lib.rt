@@ -1,4 +1,5 @@
-// One call from request bytes to reply, in four stages: a frame is opened, judged, served and closed.
+// One call from request bytes to reply, in four stages: a frame is opened, judged, served and closed. The tables stay parameters, as C lends them: a
+// struct that holds them would make each clause one about its fields at the exit (`result.exit`), which is no plainer.
 #![tactic(auto)]
 
 mod close;
@@ -80,7 +81,7 @@ fn handle(
     (told, sent)
 }
 
-// Why a frame has no body.
+// Why a frame has no body. Both types are of other crates, so this is no `From`.
 fn unopened(fault: Fault) -> Refusal
     ensures { result ≡ quiet_by (fault_of fault) }
 {

@@ -9,6 +9,8 @@ use crate::Setup;
 use requests::Refusal;
 use transports::Fault;
 
+// The tests are asked so that each ends in a branch: whether all are good takes an instruction more for each table (docs/COST.md).
+
 // Whether a table is said to have too many cells.
 fn many_cells(setup: Setup) -> bool
     ensures { (result ≡ true → ¬ Few setup) × (result ≡ false → Few setup) }

@@ -81,6 +81,7 @@ fn read<'a>(
     ensures { (result, reply.new) ≡ put_at start reply.old (read_body (lent_in setup coils.now discretes.now holdings.now inputs.now) (tab_of q.function) body.now q.address q.count) }
 {
     let at = start + 3;
+    // q.function is the same number, but is packed beside the cells: this one the compiler knows in each arm of the judging (docs/COST.md)
     match body[1] {
         1 => {
             let n = head(body, (q.count as usize + 7) / 8, reply, start);

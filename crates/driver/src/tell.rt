@@ -1,5 +1,5 @@
 // What a verdict comes to: outcome, code and the cells that it writes. These are known before it is carried out. They go past the stages in one
-// number, of which the result is made at the end: as six fields they would be copied from stage to stage.
+// number, of which the result is made at the end: as six fields they would be copied from stage to stage (docs/COST.md).
 ghost use Rattle.std.specs.Prelude.{◌≡◌, ℕ};
 ghost use Rattle.requests.specs.Judged.{refusal_paper};
 ghost use Rattle.driver.specs.Driven.{making};

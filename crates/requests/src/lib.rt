@@ -49,7 +49,7 @@ pub struct Exchange {
     pub write_count: u16,
 }
 
-// What a request asks.
+// What a request asks. Bits and words are two variants, and not one around an enum: a second tag costs 10 to 20 instructions (docs/COST.md).
 #[derive(Clone, Copy)]
 pub enum Request {
     Read(ReadCells),

@@ -1,6 +1,6 @@
 -- `transports::body_of` meets its contract, by the transport: the length is that of a body in the frame, or among the decoded bytes.
 -- Assumes nothing.
-use Rattle.std.proofs.Common.{◌≡◌, ◌-◌, ◌+◌, refl, sym, ◌∙◌, length, take, drop, arith}
+use Rattle.std.proofs.Common.{refl, sym, ◌∙◌, arith}
 use Rattle.std.proofs.lemmas.Result.{err_from_is_err_and}
 use Rattle.modbus.specs.declared.ModbusProto.TheVariants.{Rtu, Ascii, TcpUdp}
 use Rattle.transports.proofs.ProtoLaws.{proto_tcp}
