@@ -107,32 +107,33 @@ fn strict_pair(high: u8, low: u8) -> Option<u8>
     Some(strict_digit(high)? * 16 + strict_digit(low)?)
 }
 
-// Decodes pairs of digits, one to each byte, up to the first that is none; how many.
-fn decode_digits(text: &[u8], bytes: &mut [u8]) -> usize
-    requires { length text.now ≡ 2 * length bytes.old }
-    ensures { (result ≤ length bytes.old) × All Digit (take (2 * result) text.now) × (bytes.new ≡ sets bytes.old 0 (pair_values (take (2 * result) text.now))) }
-{
-    for (i, pair) in text.chunks_exact(2).enumerate() {
-        let Some(b) = strict_pair(pair[0], pair[1]) else {
-            return i;
-        };
-        bytes[i] = b;
-    }
-    bytes.len()
-}
-
-// Decodes the pairs of digits that come first, to the places of `buf` from `at` on; how many. None, where there may be no room for all pairs up to
-// `end`: what is not decoded at once is decoded pair by pair.
-fn decode_first(data: &[u8], from: usize, end: usize, buf: &mut [u8], at: usize) -> usize
-    requires { (from ≤ 1) × (1 ≤ length «data».now) × (end ≤ length «data».now) × (at < 256) }
-    ensures few { (result ≤ (end - from) / 2) × (result ≤ 254 - at) × (result ≤ length buf.old - at) }
-    ensures done { All Digit (drop from (take (from + 2 * result) «data».now)) × (buf.new ≡ sets buf.old at (pair_values (drop from (take (from + 2 * result) «data».now)))) }
+// How many pairs may be decoded with no question of room: all of the text, or none. Which of the two is not promised: what is not decoded at once is
+// decoded pair by pair.
+fn quick_pairs(end: usize, from: usize, room: usize, at: usize) -> usize
+    requires { at < 256 }
+    ensures { (result ≡ 0) ⊎ ((from + 2 * result ≤ end) × (at + result ≤ 254) × (at + result ≤ room)) }
 {
     let n = end.saturating_sub(from) / 2;
-    if 254 < at + n || buf.len() < at + n {
-        return 0;
+    if at + n <= 254 && at + n <= room {
+        n
+    } else {
+        0
     }
-    decode_digits(&data[from..from + 2 * n], &mut buf[at..at + n])
+}
+
+// Decodes pairs of digits from `from` on to the places of `buf` from `at` on, n of them or up to the first that is none; how many.
+fn decode_digits(data: &[u8], from: usize, n: usize, buf: &mut [u8], at: usize) -> usize
+    requires { (from + 2 * n ≤ length «data».now) × (n ≤ length buf.old - at) }
+    ensures { (result ≤ n) × All Digit (drop from (take (from + 2 * result) «data».now)) × (buf.new ≡ sets buf.old at (pair_values (drop from (take (from + 2 * result) «data».now)))) }
+{
+    for i in 0..n {
+        let k = from + 2 * i;
+        let Some(b) = strict_pair(data[k], data[k + 1]) else {
+            return i;
+        };
+        buf[at + i] = b;
+    }
+    n
 }
 
 // Decodes pair by pair, and ends where something else stands. The digits that come first are decoded with no other question.
@@ -150,7 +151,8 @@ pub(crate) fn parse_by_pairs(
     }
     let end = least(data_len, data.len());
     let from = colon(data[0]);
-    let done = decode_first(data, from, end, frame_buf, frame_pos as usize);
+    let quick = quick_pairs(end, from, frame_buf.len(), frame_pos as usize);
+    let done = decode_digits(data, from, quick, frame_buf, frame_pos as usize);
     let mut data_pos = from + 2 * done;
     let mut cpos = frame_pos + done as u8;
     while data_pos < end {
