@@ -1,5 +1,5 @@
 // Text into bytes.
-ghost use Rattle.std.specs.Prelude.{◌≡◌, ◌+◌, ◌-◌, ◌*◌, ◌/◌, ◌<◌, ◌≤◌, true, false, ◌⊎◌, ◌↔◌, IsTrue, IfSome, length, take, drop, slice_index_or};
+ghost use Rattle.std.specs.Prelude.{◌≡◌, ◌+◌, ◌-◌, ◌*◌, ◌/◌, ◌<◌, ◌≤◌, true, false, ◌⊎◌, ◌↔◌, IsTrue, MatchOption, length, take, drop, slice_index_or};
 ghost use Rattle.std.proofs.lemmas.List.Edits.{sets};
 ghost use Rattle.modbus.specs.Step.{choose, ◌≟◌};
 ghost use Rattle.modbus.specs.Paper.{told, paper};
@@ -91,7 +91,7 @@ pub(crate) fn plain(data: &[u8], data_len: usize, room: usize, at: usize) -> boo
 
 // What a digit 0-9 or A-F stands for: every switch reads these alike, and to ask for no other costs less.
 fn strict_digit(c: u8) -> Option<u8>
-    ensures { IfSome result (λ v. Digit c × (v ≡ value c) × (v < 16)) }
+    ensures { MatchOption result (¬ Digit c) (λ v. Digit c × (v ≡ value c) × (v < 16)) }
 {
     match c {
         b'0'..=b'9' => Some(c - b'0'),
@@ -102,7 +102,7 @@ fn strict_digit(c: u8) -> Option<u8>
 
 // The byte of two such digits.
 fn strict_pair(high: u8, low: u8) -> Option<u8>
-    ensures { IfSome result (λ b. Digit high × Digit low × (b ≡ value high * 16 + value low)) }
+    ensures { MatchOption result (¬ (Digit high × Digit low)) (λ b. Digit high × Digit low × (b ≡ value high * 16 + value low)) }
 {
     Some(strict_digit(high)? * 16 + strict_digit(low)?)
 }
