@@ -3,7 +3,7 @@
 use Rattle.modbus.specs.declared.ErrorKind.{ErrorKind}
 use Rattle.std.specs.Prelude.{Result, Ok}
 use Rattle.std.proofs.Common.{◌≡◌, ℕ, zero, suc, ◌+◌, ◌-◌, ◌*◌, ◌/◌, ◌<◌, ◌≤◌, true, false, ◌⊎◌, List, [], ◌∷◌, ◌++◌, length, get_or, take, drop, set, sym, refl, ap, ◌∙◌, inl, inr, ⊎_elim, add-one, arith, length-drop, length-set, drop_of_length-le, length-take, drop-cons, append_assoc, zero-add}
-use Rattle.std.proofs.lemmas.List.{get_or-drop, drop-drop, drop-append-le, take-append-drop}
+use Rattle.std.proofs.lemmas.List.{drop-drop, drop-append-le, take-append-drop}
 use borrow.Rule.Slice.PartMut.{put_mid}
 use lib.Bits.{bit_or, or_add_and, and_le_l, and_le_r}
 use lib.Seq.{sets, sets-eq}
@@ -135,19 +135,6 @@ from_two s e k h j =
 pub digits_two : (s : List ℕ) (e k : ℕ) → All Digit (drop k (take e s)) → k + 1 < e → e ≤ length s
     → Digit (get_or s k 0) × Digit (get_or s (k + 1) 0) × All Digit (drop (k + 2) (take e s))
 digits_two s e k d h j = let f = rw (from_two s e k h j) at d in (f.0, f.1.0, f.1.1)
-
--- a chunk of two, and what stands behind it
-pub chunk_two : (s p r : List ℕ) (k : ℕ) → drop k s ≡ p ++ r → length p ≡ 2
-    → (get_or s k 0 ≡ get_or p 0 0) × (get_or s (k + 1) 0 ≡ get_or p 1 0) × (drop (k + 2) s ≡ r)
-chunk_two s [] r k e h = absurd (omega arith)
-chunk_two s (x ∷ []) r k e h = absurd (omega arith)
-chunk_two s (x ∷ y ∷ z ∷ p) r k e h = absurd (omega arith)
-chunk_two s (x ∷ y ∷ []) r k e h =
-    let z : k + 0 ≡ k = omega arith in (
-      sym (rw z at (get_or-drop k s 0 0)) ∙ ap (λ (t : List ℕ). get_or t 0 0) e,
-      sym (get_or-drop k s 1 0) ∙ ap (λ (t : List ℕ). get_or t 1 0) e,
-      sym (drop-drop 2 k s) ∙ ap (drop 2) e,
-    )
 
 module _ (r p q : List ℕ) (e : r ≡ p ++ q) (h : length p ≡ 2) where
   pub chunk_digits : All Digit r → Digit (get_or p 0 0) × Digit (get_or p 1 0) × All Digit q

@@ -48,7 +48,7 @@ pub fn parse_text(
     Ok(n as u8)
 }
 
-// The crate's call, under a switch: 0 strict, 1 lenient.
+// The crate's call, under a switch: 0 strict, 1 lenient. C hands over `data_len`, which may be more than the data has.
 pub fn parse_ascii_frame(
     data: &[u8],
     data_len: usize,

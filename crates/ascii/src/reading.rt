@@ -1,5 +1,5 @@
 // Text into bytes.
-ghost use Rattle.std.specs.Prelude.{◌≡◌, ◌+◌, ◌-◌, ◌*◌, ◌/◌, ◌<◌, ◌≤◌, true, false, ◌⊎◌, ◌↔◌, IsTrue, IfSome, length, take, drop, slice_index_or};
+ghost use Rattle.std.specs.Prelude.{◌≡◌, ◌+◌, ◌-◌, ◌*◌, ◌/◌, ◌<◌, ◌≤◌, true, false, ◌⊎◌, ◌↔◌, IsTrue, MatchOption, length, take, drop, slice_index_or};
 ghost use Rattle.std.proofs.lemmas.List.Edits.{sets};
 ghost use Rattle.modbus.specs.Step.{choose, ◌≟◌};
 ghost use Rattle.modbus.specs.Paper.{told, paper};
@@ -91,7 +91,7 @@ pub(crate) fn plain(data: &[u8], data_len: usize, room: usize, at: usize) -> boo
 
 // What a digit 0-9 or A-F stands for: every switch reads these alike, and to ask for no other costs less.
 fn strict_digit(c: u8) -> Option<u8>
-    ensures { IfSome result (λ v. Digit c × (v ≡ value c) × (v < 16)) }
+    ensures { MatchOption result (¬ Digit c) (λ v. Digit c × (v ≡ value c) × (v < 16)) }
 {
     match c {
         b'0'..=b'9' => Some(c - b'0'),
@@ -102,40 +102,43 @@ fn strict_digit(c: u8) -> Option<u8>
 
 // The byte of two such digits.
 fn strict_pair(high: u8, low: u8) -> Option<u8>
-    ensures { IfSome result (λ b. Digit high × Digit low × (b ≡ value high * 16 + value low)) }
+    ensures { MatchOption result (¬ (Digit high × Digit low)) (λ b. Digit high × Digit low × (b ≡ value high * 16 + value low)) }
 {
     Some(strict_digit(high)? * 16 + strict_digit(low)?)
 }
 
-// Decodes pairs of digits, one to each byte, up to the first that is none; how many.
-fn decode_digits(text: &[u8], bytes: &mut [u8]) -> usize
-    requires { length text.now ≡ 2 * length bytes.old }
-    ensures { (result ≤ length bytes.old) × All Digit (take (2 * result) text.now) × (bytes.new ≡ sets bytes.old 0 (pair_values (take (2 * result) text.now))) }
-{
-    for (i, pair) in text.chunks_exact(2).enumerate() {
-        let Some(b) = strict_pair(pair[0], pair[1]) else {
-            return i;
-        };
-        bytes[i] = b;
-    }
-    bytes.len()
-}
-
-// Decodes the pairs of digits that come first, to the places of `buf` from `at` on; how many. None, where there may be no room for all pairs up to
-// `end`: what is not decoded at once is decoded pair by pair.
-fn decode_first(data: &[u8], from: usize, end: usize, buf: &mut [u8], at: usize) -> usize
-    requires { (from ≤ 1) × (1 ≤ length «data».now) × (end ≤ length «data».now) × (at < 256) }
-    ensures few { (result ≤ (end - from) / 2) × (result ≤ 254 - at) × (result ≤ length buf.old - at) }
-    ensures done { All Digit (drop from (take (from + 2 * result) «data».now)) × (buf.new ≡ sets buf.old at (pair_values (drop from (take (from + 2 * result) «data».now)))) }
+// How many pairs may be decoded with no question of room: all of the text, or none. Which of the two is not promised: what is not decoded at once is
+// decoded pair by pair.
+fn quick_pairs(end: usize, from: usize, room: usize, at: usize) -> usize
+    requires { at < 256 }
+    ensures { (result ≡ 0) ⊎ ((from + 2 * result ≤ end) × (at + result ≤ 254) × (at + result ≤ room)) }
 {
     let n = end.saturating_sub(from) / 2;
-    if 254 < at + n || buf.len() < at + n {
-        return 0;
+    if at + n <= 254 && at + n <= room {
+        n
+    } else {
+        0
     }
-    decode_digits(&data[from..from + 2 * n], &mut buf[at..at + n])
 }
 
-// Decodes pair by pair, and ends where something else stands. The digits that come first are decoded with no other question.
+// Decodes pairs of digits from `from` on to the places of `buf` from `at` on, n of them or up to the first that is none; how many. By places: over
+// chunks of two slices, as `decode_pairs`, a short line takes 5 instructions more, and one in small letters 26.
+fn decode_digits(data: &[u8], from: usize, n: usize, buf: &mut [u8], at: usize) -> usize
+    requires { (from + 2 * n ≤ length «data».now) × (n ≤ length buf.old - at) }
+    ensures { (result ≤ n) × All Digit (drop from (take (from + 2 * result) «data».now)) × (buf.new ≡ sets buf.old at (pair_values (drop from (take (from + 2 * result) «data».now)))) }
+{
+    for i in 0..n {
+        let k = from + 2 * i;
+        let Some(b) = strict_pair(data[k], data[k + 1]) else {
+            return i;
+        };
+        buf[at + i] = b;
+    }
+    n
+}
+
+// Decodes pair by pair, and ends where something else stands. The digits that come first are decoded with no other question. Two places move, the
+// text's and the buffer's: a `for` over the one would count the other by hand as well.
 pub(crate) fn parse_by_pairs(
     data: &[u8],
     data_len: usize,
@@ -150,7 +153,8 @@ pub(crate) fn parse_by_pairs(
     }
     let end = least(data_len, data.len());
     let from = colon(data[0]);
-    let done = decode_first(data, from, end, frame_buf, frame_pos as usize);
+    let quick = quick_pairs(end, from, frame_buf.len(), frame_pos as usize);
+    let done = decode_digits(data, from, quick, frame_buf, frame_pos as usize);
     let mut data_pos = from + 2 * done;
     let mut cpos = frame_pos + done as u8;
     while data_pos < end {

@@ -1,13 +1,14 @@
 -- Each way out of what is read of a request before it is known what is asked, by transport.
 -- Assumes nothing.
 use mathlib.Core.Bool.{Bool, true, false}
-use mathlib.Core.Path.{◌≡◌, refl, ap, ◌∙◌}
+use mathlib.Core.Path.{◌≡◌, refl, sym, ap, ap₂, ◌∙◌}
 use mathlib.Core.List.{List, [], ◌∷◌, ◌++◌}
 use Prim.Native.Nat.{ℕ, ◌+◌, ◌/◌, ◌%◌, ◌≤◌, ◌<◌}
 use native.Mathlib.Omega.{arith}
+use native.Mathlib.Numerals.{add-one}
 use lib.Dec.{ltb}
-use lib.ListN.{length, take, drop, length-append}
-use lib.Seq.{take-length, drop-append_seam}
+use lib.ListN.{length, get_or, take, drop, length-drop, length-append}
+use lib.Seq.{take-suc, take-length, drop-append_seam, get_or-drop}
 use borrow.Author.Tests.{lt-ltb, le-ltb}
 use Rattle.std.specs.Prelude.{Result, Ok, Err}
 use Rattle.modbus.specs.Step.{stop, go, choose, ◌≤?◌}
@@ -75,6 +76,16 @@ module _ (buf : List ℕ) (at : ℕ) (d : List ℕ) where
     pub follows_not : ¬ (take (length d) (drop at buf) ≡ d) → follows buf at d ≡ stop FrameCRCError
     unfolding follows
     follows_not n = pass _ _ _ h ∙ fail _ _ _ n
+
+    -- one byte more is the same
+    pub same_further : (i : ℕ) → i < length d → get_or buf (at + i) 0 ≡ get_or d i 0 → take i (drop at buf) ≡ take i d
+        → take (i + 1) (drop at buf) ≡ take (i + 1) d
+    same_further i j g e =
+        let k : i < length (drop at buf) = simp length-drop (omega arith) in
+        rw (add-one i)
+        (take-suc _ i 0 k
+        ∙ ap₂ (λ (l : List ℕ) (x : ℕ). l ++ (x ∷ [])) e (get_or-drop at buf i 0 ∙ g)
+        ∙ sym (take-suc d i 0 j))
 
 -- bytes behind others follow them
 pub follows_behind : (b d : List ℕ) → follows (b ++ d) (length b) d ≡ go 0

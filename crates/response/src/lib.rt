@@ -1,4 +1,5 @@
-// The bounded response: a lent slice, and how many bytes of it are the response. Each call answers the length afterwards.
+// The bounded response: a lent slice, and how many bytes of it are the response. Each call answers the length afterwards. C hands over the slice
+// and the length, and a struct of both would be taken apart in each call.
 #![tactic(auto)]
 
 ghost use Rattle.std.specs.Prelude.{◌≡◌, [], ◌∷◌, ◌+◌, ◌-◌, ◌*◌, ◌/◌, ◌%◌, ◌≤◌, length, take, drop};

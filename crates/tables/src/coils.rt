@@ -60,7 +60,8 @@ fn window(low: u8, high: u8, shift: u8) -> u8
 }
 
 // n bytes of dst from `at` on become the cells of src from `from` on, eight a byte. `first` and `last` are the bytes of the first and
-// of the last of eight cells: the same byte where the shift is 0, so that no byte after the cells is read.
+// of the last of eight cells: the same byte where the shift is 0, so that no byte after the cells is read. Three slices go on by one place: an
+// iterator over them, zipped and counted, names no less.
 fn copy_whole(dst: &mut [u8], at: usize, src: &[u8], from: usize, n: usize)
     requires { (at + n ≤ length dst.old) × (from + 8 * n ≤ 8 * length src.now) × (from + 8 * n ≤ 65536) }
     ensures { dst.new ≡ sets dst.old at (pack (part (coil_at src.now) from (8 * n))) }
@@ -144,7 +145,7 @@ fn put_all(dst: &mut [u8], at: usize, src: &[u8], n: usize)
     put_run(dst, at + done, src, done, n - done);
 }
 
-// Reads coils or discretes, which are laid out alike.
+// Reads coils or discretes, which are laid out alike; each has a call of its own for C.
 fn add_cells(
     table: &[u8],
     cells: usize,

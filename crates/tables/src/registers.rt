@@ -65,7 +65,7 @@ pub fn get_holdings_as_u8(
     add_part(table, cells, reg, count, response, len)
 }
 
-// The inputs are laid out as the holdings are.
+// The inputs are laid out as the holdings are, and have a call of their own for C.
 pub fn get_inputs_as_u8(
     table: &[u8],
     cells: usize,

@@ -1,8 +1,6 @@
 -- `ascii::generate_ascii_frame` meets its contract: where the line fits, it is written whole.
 -- Assumes nothing.
-use Rattle.std.proofs.Common.{◌≡◌, ℕ, ◌+◌, ◌*◌, ◌≤◌, Bool, true, false, set, sym, refl, ◌∙◌, arith, length-set}
-use Rattle.modbus.specs.Step.{choose, ◌≤?◌}
-use Rattle.modbus.proofs.StepLaws.{picked}
+use Rattle.std.proofs.Common.{set, sym, refl, arith, length-set}
 use Rattle.ascii.proofs.ReadingLaws.{length_line, line_written}
 use Rattle.ascii.proofs.generate_ascii_frame.Goals as goal
 

@@ -1,10 +1,6 @@
 -- `ascii::reading::decode_pairs` meets its contract.
 -- Assumes nothing.
-use Rattle.std.proofs.Common.{◌≡◌, ℕ, suc, ◌+◌, ◌*◌, ◌≤◌, List, [], length, sym, refl, ap, ◌∙◌, arith, length-set, length-append, add-one}
-use lib.Seq.{sets}
-use Rattle.std.specs.Iterator.Adapters.{enumerate_source, enumerate_count}
-use Rattle.std.specs.Slice.Iter.{chunks_exact_rest}
-use Rattle.ascii.specs.Plain.{pair_values}
+use Rattle.std.proofs.Common.{length, ap, ◌∙◌, arith, length-set, length-append, add-one}
 use Rattle.ascii.proofs.PlainLaws.{chunk_digits, chunk_values, values_none}
 use Rattle.ascii.proofs.reading.decode_pairs.Goals as goal
 

@@ -5,10 +5,8 @@ use Rattle.modbus.specs.Hex.{spelt}
 use Rattle.modbus.proofs.HexLaws.{digit_undigit}
 use Rattle.modbus.proofs.PaperLaws.{handed_on, byte_value, byte_refusal}
 use Rattle.ascii.specs.Said.{said}
-use Rattle.ascii.specs.Reading.{StopByte}
-use Rattle.ascii.proofs.PlainLaws.{never}
-use Rattle.ascii.proofs.ReadingLaws.{pair_stop, pair_first, pair_second, pair_both, second_none}
-use Rattle.ascii.proofs.SpeltLaws.{stop_spell, no_stop_spell, second_spelt}
+use Rattle.ascii.proofs.ReadingLaws.{pair_first, pair_second, pair_both, second_none}
+use Rattle.ascii.proofs.SpeltLaws.{no_stop_spell, second_spelt}
 use Rattle.ascii.proofs.reading.pair_at.Goals as goal
 
 pub returns-in_err-high : goal.returns-in_err-high

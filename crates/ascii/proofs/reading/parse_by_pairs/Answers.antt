@@ -1,6 +1,6 @@
 -- `ascii::reading::parse_by_pairs` meets its contract. The loop's invariant: what is left of the reading comes to what was left at its start.
 -- Assumes nothing.
-use Rattle.std.specs.Prelude.{Result, Ok}
+use Rattle.std.specs.Prelude.{Result}
 use Rattle.std.proofs.lemmas.Bool.Decides.{nat_tests}
 use Rattle.modbus.specs.Paper.{paper}
 use Rattle.modbus.specs.declared.ErrorKind.{ErrorKind}
@@ -13,10 +13,9 @@ use Rattle.modbus.specs.Hex.{spell, spelt}
 use Rattle.modbus.proofs.StepLaws.{pick_yes, pick_no}
 use Rattle.modbus.proofs.HexLaws.{length_spelt, get_d_spelt}
 use Rattle.ascii.specs.Reading.{Ending, finished, refused, pair, parsed_into}
-use Rattle.ascii.specs.Said.{said}
 use Rattle.octets.proofs.PutLaws.{no_room, had_room}
 use Rattle.ascii.proofs.ReadingLaws.{pair_stop, length_kept, resumed, resumed_start, resumed_done, resumed_stop, resumed_go, parsed_none, placed_full, placed_stop, placed_outside}
-use Rattle.ascii.proofs.PlainLaws.{resumed_digits}
+use Rattle.ascii.proofs.PlainLaws.{quick_room, resumed_digits}
 use Rattle.ascii.proofs.SpeltLaws.{stop_spell, begin_spelt, digits_spelt}
 use Rattle.ascii.proofs.reading.parse_by_pairs.Goals as goal
 use Rattle.ascii.proofs.reading.parse_by_pairs.Goals.{After-least-end, At-loop-data_pos}
@@ -44,16 +43,16 @@ left : (l : At-loop-data_pos)
 left l =
     let n = l in
     let a = l.args in
-    let q = l.decode_first-done.ensures.done in
-    let room = l.decode_first-done.ensures.few in
+    let q = l.decode_digits-done.ensures in
+    let room = quick_room _ _ _ _ _ _ l.quick_pairs-quick.ensures q.0 in
     let long = length_spelt a.hex a.«data».now in
-    let t = sym (digits_spelt a.hex a.«data».now l.colon-from.result (l.colon-from.result + 2 * l.decode_first-done.result) q.0) in
+    let t = sym (digits_spelt a.hex a.«data».now l.colon-from.result (l.colon-from.result + 2 * l.decode_digits-done.result) q.1) in
     l.loop-data_pos.invariant.3
-    ∙ resumed_digits (spelt a.hex a.«data».now) l.least-end.result (omega (arith, long, l.least-end.ensures)) _ _ _ _ _ _ l.decode_first-done.result l.colon-from.result _ _ _
+    ∙ resumed_digits (spelt a.hex a.«data».now) l.least-end.result (omega (arith, long, l.least-end.ensures)) _ _ _ _ _ _ l.decode_digits-done.result l.colon-from.result _ _ _
     (resumed_start (spelt a.hex a.«data».now) _ _ _ _ _ (λ z. filled (sym long ∙ z) l.is_empty.ensures l.if-is_empty.false) (l.least-end.ensures ∙ ap (min a.data_len) (sym long))
     (l.colon-from.ensures.value ∙ sym (begin_spelt a.hex a.«data».now)))
     room.0 room.1 room.2 refl (omega arith) refl
-    (rw t at q.0) (rw t at q.1)
+    (rw t at q.1) (rw t at q.2)
 
 -- what stood at the place, by what code was told of it
 read : (hex : ℕ) (d : List ℕ) (end at : ℕ) {r : Step Ending ℕ}
@@ -66,6 +65,12 @@ returns-then-is_empty c =
     let a = c.args in
     let z : length a.«data».now ≡ 0 = grind (arith, nat_tests) in
     parsed_none (spelt a.hex a.«data».now) _ _ _ (length_spelt a.hex a.«data».now ∙ z)
+
+pub decode_digits-done-requires : goal.decode_digits-done-requires
+decode_digits-done-requires c =
+    let r = quick_room _ _ _ _ _ c.quick_pairs-quick.result c.quick_pairs-quick.ensures (omega arith) in
+    let h : ¬ (length c.args.«data».now ≡ 0) = λ z. filled z c.is_empty.ensures c.if-is_empty.false in
+    (omega (arith, h, c.colon-from.ensures.small), r.2)
 
 pub returns-then-cpos : goal.returns-then-cpos
 returns-then-cpos c =
