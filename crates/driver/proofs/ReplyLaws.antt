@@ -5,9 +5,9 @@ use mathlib.Core.Path.{◌≡◌, refl, sym, ap, ap₂, ◌∙◌}
 use mathlib.Core.List.{List, [], ◌∷◌, ◌++◌}
 use borrow.Rule.Slice.PartMut.{put_mid}
 use Rattle.std.proofs.lemmas.Slice.{put_mid-paste}
-use Prim.Native.Nat.{ℕ, suc, ◌+◌, ◌-◌, ◌*◌, ◌/◌, ◌≤◌, ◌<◌}
+use Prim.Native.Nat.{ℕ, ◌+◌, ◌-◌, ◌*◌, ◌/◌, ◌≤◌, ◌<◌}
 use native.Mathlib.Omega.{arith}
-use lib.ListN.{length, take, drop, set, length-drop}
+use lib.ListN.{length, take, drop, length-drop}
 use lib.Seq.{sets, sets-eq, take_all, length-take-le}
 use Rattle.modbus.specs.Table.{word, part}
 use Rattle.modbus.specs.Request.{octets, shown}
@@ -28,12 +28,6 @@ use Rattle.tables.proofs.CallsLaws.{added_inside, stored_inside, changed_inside}
 use Rattle.driver.specs.Serving.{put_at, data_of}
 
 -- ---- the reply
-
-pub three_put : (l : List ℕ) (s x y z : ℕ) → set (set (set l s x) (s + 1) y) (s + 2) z ≡ sets l s (x ∷ y ∷ z ∷ [])
-three_put l s x y z =
-    let e : s + 1 ≡ suc s = omega arith in
-    let f : s + 2 ≡ suc (suc s) = omega arith in
-    rw (e, f)
 
 pub put_at_law : (start : ℕ) (reply l : List ℕ) (r : ℕ) (o : List ℕ) → r ≡ length l → o ≡ sets reply start l
     → ◌≡◌ {A = ℕ × List ℕ} (r, o) (put_at start reply l)

@@ -1,11 +1,10 @@
 -- Outcome, code and the cells written, in one number and taken out of it again.
 -- Assumes nothing.
 use mathlib.Core.Path.{◌≡◌, ap, ◌∙◌}
-use mathlib.Core.List.{[]}
 use Prim.Native.Nat.{ℕ, ◌+◌, ◌*◌, ◌/◌, ◌%◌, ◌<◌}
 use native.Mathlib.Omega.{arith}
 use native.Mathlib.Nat.{zero-add, add-mul-div_left, add-mul-mod_self_left, div-eq_of_lt, mod-eq_of_lt}
-use Rattle.driver.specs.Driven.{making, resulting}
+use Rattle.driver.specs.Driven.{making}
 use Rattle.driver.specs.Serving.{unpacked}
 
 -- a multiple of d, and what stands below it
@@ -28,7 +27,3 @@ takes_apart o c t f k w ho hc ht hf e n =
     let et = below 256 t (256 * f + 16777216 * k) (w / 65536) ht (third ∙ omega arith) in
     let ef = below 65536 f k (w / 4294967296) hf fifth in
     λ i. making n (eo i) (ec i) (et i) (ef i) (last i)
-
--- an outcome alone
-pub outcome_alone : (o : ℕ) → o < 256 → unpacked o 0 ≡ resulting o 0 0 []
-outcome_alone o h = takes_apart o 0 0 0 0 o h (omega arith) (omega arith) (omega arith) (omega arith) 0

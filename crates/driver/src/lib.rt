@@ -52,8 +52,8 @@ pub struct Driven {
     pub count: u16,
 }
 
-// A frame that is opened, to this body: what is told, and the length of the reply; `start` is where a body starts in the transport's frames. One call of each stage, which the compiler then
-// writes in place.
+// A frame that is opened, to this body: what is told, and the length of the reply; `start` is where a body starts in the transport's frames. One call of
+// each stage, which the compiler then writes in place.
 fn handle(
     setup: Setup,
     list: &[u8],

@@ -41,9 +41,6 @@ tab_of_law discretes = refl
 tab_of_law holdings = refl
 tab_of_law inputs = refl
 
-pub same_tab : (n : ℕ) (t u : Tab) → n ≡ code (reads t) → n ≡ code (reads u) → t ≡ u
-same_tab n t u p q = sym (tab_of_law t) ∙ ap tab_of (sym p ∙ q) ∙ tab_of_law u
-
 -- ---- each way out
 
 module _ (s : Setup) (broadcast : Bool) (b : List ℕ) where

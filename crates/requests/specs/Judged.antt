@@ -85,11 +85,6 @@ kept_by (go a) = Ok (kept a)
 unfoldable pub judged : Setup → Bool → List ℕ → Verdict
 judged s broadcast b = kept_by (weighed s broadcast b)
 
--- bits or words
-abbrev pub kind_by : Bool → Kind
-kind_by true = bit
-kind_by false = word
-
 -- ---- a verdict in document 01's numbers
 
 abbrev pub code_number : Code → ℕ

@@ -272,7 +272,8 @@ fn judge_mask(body: &[u8], broadcast: bool, cells: usize) -> Result<Request, Ref
     }))
 }
 
-// A write of registers and a read of registers: both ranges lie inside the table, or nothing is done. On a broadcast number it is ignored, as a read is.
+// A write of registers and a read of registers: both ranges lie inside the table, or nothing is done. On a broadcast number it is ignored, as a read
+// is.
 fn judge_both(body: &[u8], broadcast: bool, cells: usize) -> Result<Request, Refusal>
     requires { get_or body.now 1 0 ≡ code both }
     ensures { (s : Setup) → s.cells holdings ≡ cells → result ≡ judged s broadcast body.now }
