@@ -2,13 +2,11 @@
 -- inside and there is room.
 -- Assumes nothing.
 use mathlib.Core.Path.{◌≡◌, refl, sym, ap, ap₂, ◌∙◌}
-use mathlib.Core.List.{List, [], ◌∷◌, ◌++◌}
-use borrow.Rule.Slice.PartMut.{put_mid}
-use Rattle.std.proofs.lemmas.Slice.{put_mid-paste}
+use mathlib.Core.List.{List, [], ◌∷◌}
 use Prim.Native.Nat.{ℕ, ◌+◌, ◌-◌, ◌*◌, ◌/◌, ◌≤◌, ◌<◌}
 use native.Mathlib.Omega.{arith}
 use lib.ListN.{length, take, drop, length-drop}
-use lib.Seq.{sets, sets-eq, take_all, length-take-le}
+use lib.Seq.{sets, length-take-le}
 use Rattle.modbus.specs.Table.{word, part}
 use Rattle.modbus.specs.Request.{octets, shown}
 use Rattle.modbus.specs.Paper.{told_with, paper_by}
@@ -38,12 +36,6 @@ pub put_behind : (reply : List ℕ) (start x y z : ℕ) (d h o : List ℕ) → h
     → o ≡ sets reply start (x ∷ y ∷ z ∷ d)
 put_behind reply start x y z d h o e f =
     f ∙ ap (λ (l : List ℕ). sets l (start + 3) d) e ∙ sym (sets_append (x ∷ y ∷ z ∷ []) d reply start (start + 3) (omega arith))
-
--- a part of the reply written over
-pub part_put : (start n : ℕ) (reply l m : List ℕ) → m ≡ l → length l ≡ n → start + n ≤ length reply → put_mid start n reply m ≡ sets reply start l
-part_put start n reply l m e f h =
-    put_mid-paste start n reply m l n e refl (sym f) ∙ ap (λ (d : List ℕ). take start reply ++ d ++ drop (start + n) reply) (take_all n l (omega arith))
-    ∙ ap (λ (i : ℕ). take start reply ++ l ++ drop (start + i) reply) (sym f) ∙ sym (sets-eq l reply start (omega (arith, f)))
 
 -- ---- the calls
 

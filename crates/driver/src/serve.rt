@@ -46,12 +46,12 @@ fn head(body: &[u8], n: usize, reply: &mut [u8], start: usize) -> usize
     n + 3
 }
 
-// The reply to a write: the first bytes of its request.
+// The reply to a write: the first bytes of its request. `copy_from_slice` takes a pointer for a number of 64 bits, which it is not on every processor.
 fn echo(body: &[u8], n: usize, reply: &mut [u8], start: usize) -> usize
     requires { (n ≤ length body.now) × (start + n ≤ length reply.old) }
     ensures { (result, reply.new) ≡ put_at start reply.old (take n body.now) }
 {
-    reply[start..start + n].copy_from_slice(&body[..n]);
+    extend(reply, start, &body[..n]).unwrap();
     n
 }
 
