@@ -12,7 +12,7 @@ ghost use Rattle.ascii.specs.Said.{said};
 use crate::other;
 use checks::digit_under;
 use modbus::ErrorKind;
-use octets::{least, put_byte};
+use octets::put_byte;
 
 // LF, CR and NUL end a text.
 fn stop_byte(ch: u8) -> bool
@@ -151,7 +151,7 @@ pub(crate) fn parse_by_pairs(
     if data.is_empty() {
         return Err(ErrorKind::OOB);
     }
-    let end = least(data_len, data.len());
+    let end = data_len.min(data.len());
     let from = colon(data[0]);
     let quick = quick_pairs(end, from, frame_buf.len(), frame_pos as usize);
     let done = decode_digits(data, from, quick, frame_buf, frame_pos as usize);

@@ -7,7 +7,7 @@ use frame::changes::Changes;
 use modbus::{Answer, ErrorKind};
 use octets::{byte, word};
 
-// What is reported to a call.
+// What is reported to a call. By hand: a kind has no way back from its number in the library, where nobody needs one.
 pub(crate) fn reported(number: u8) -> Result<(), Failure> {
     match number {
         1 => Err(Failure::IllegalFunction),

@@ -10,7 +10,7 @@ ghost use Rattle.collector.specs.Waits.{Waits};
 
 use driver::{Driven, Setup};
 use modbus::ErrorKind;
-use octets::{least, word};
+use octets::word;
 use response::extend;
 
 // The bytes of a state, and how many of a frame it holds at most: one more than a frame may have.
@@ -44,11 +44,12 @@ pub fn offer(state: &mut [u8], bytes: &[u8]) -> Result<usize, ErrorKind>
         return Err(ErrorKind::OOB);
     }
     let n = count_of(state);
-    let more = least(bytes.len(), MOST - n);
+    let more = bytes.len().min(MOST - n);
     let _ = extend(state, n + 2, &bytes[0..more]);
     let count = n + more;
-    state[0] = (count / 256) as u8;
-    state[1] = (count % 256) as u8;
+    let [high, low] = (count as u16).to_be_bytes();
+    state[0] = high;
+    state[1] = low;
     Ok(count)
 }
 

@@ -114,6 +114,7 @@ fn run(
     )?;
     check_room(setup.transport, reply.len())?;
     let mut raw = [0u8; 256];
+    // By `map_err` the closure's call would stand in every goal behind it.
     let body = match body_of(setup.transport, setup.hex, frame, &mut raw) {
         Ok(body) => body,
         Err(fault) => return Err(unopened(fault)),

@@ -116,6 +116,7 @@ fn read<'a>(
     }
 }
 
+// Coils and registers go by the calls that the crate has for each; a function over both would ask for the kind what its caller knows.
 fn write_bits(c: Cells, cells: usize, body: &[u8], coils: &mut [u8])
     requires { (c.address + c.count ≤ cells) × (c.at + (c.count + 7) / 8 ≤ length body.now) × Sound packed coils.old cells }
     ensures { coils.new ≡ store packed coils.old c.address (data_of bit body.now c) }

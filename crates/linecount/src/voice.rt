@@ -8,7 +8,8 @@ fn line(rt: &HostRuntime, what: &str, n: u64) {
     let _ = println!(rt; "{what} {n}");
 }
 
-// What cannot be written is let go: the status is 0, whatever comes.
+// What cannot be written is let go: the status is 0, whatever comes. The totals are a print each, and no `Display` of all: a line that fails must
+// not stop the next.
 pub(crate) fn say(rt: &HostRuntime, outcome: Result<Total, Failure>) {
     match outcome {
         Ok(total) => {

@@ -5,8 +5,6 @@ use mathlib.Core.Bool.{Bool}
 use mathlib.Core.List.{List}
 use Prim.Native.Nat.{ℕ}
 use Rattle.modbus.proofs.Unique.{Unique}
-use Rattle.octets.proofs.least.Kinds as least-kinds
-use Rattle.octets.proofs.least.Reads as least-reads
 use Rattle.octets.proofs.byte.Kinds as byte-kinds
 use Rattle.octets.proofs.byte.Reads as byte-reads
 use Rattle.octets.proofs.word.Kinds as word-kinds
@@ -15,9 +13,6 @@ use Rattle.octets.proofs.contains.Kinds as contains-kinds
 use Rattle.octets.proofs.contains.Reads as contains-reads
 use Rattle.octets.proofs.put_byte.Kinds as put-byte-kinds
 use Rattle.octets.proofs.put_byte.Reads as put-byte-reads
-
-pub least : Unique 0 least-kinds.ps least-kinds.r least-reads.Post
-least κs a x y u v p q = (p ∙ sym q, refl)
 
 pub byte : Unique 1 byte-kinds.ps byte-kinds.r byte-reads.Post
 byte κs a x y u v p q = (p ∙ sym q, refl)

@@ -7,13 +7,6 @@ ghost use Rattle.modbus.specs.Step.{choose};
 ghost use Rattle.modbus.specs.Unit.{listed?};
 ghost use Rattle.octets.specs.Put.{byte_at, put_byte};
 
-// The smaller of two lengths.
-pub fn least(m: usize, n: usize) -> usize
-    ensures { result ≡ min m n }
-{
-    m.min(n)
-}
-
 pub fn byte(s: &[u8], at: usize) -> u8
     ensures { result ≡ byte_at s.now at }
 {

@@ -103,7 +103,7 @@ impl Reading {
     }
 }
 
-// Reads until the text is full, the input ends or a read fails. Answers how many bytes stand at its front then.
+// Reads until the text is full, the input ends or a read fails. Answers how many bytes stand at its front then: `read_exact` would not say that at the end.
 fn fill(mut input: Stdin, text: &mut [u8]) -> usize
     ensures { result ≤ length text.new }
 {

@@ -1,4 +1,5 @@
-// Tables lent as bytes with a cell number: coils and discretes packed, holdings and inputs two bytes a cell.
+// Tables lent as bytes with a cell number: coils and discretes packed, holdings and inputs two bytes a cell. The calls on either are functions of a
+// file each: as one trait, whose ghost members would be the storage, they would be generic bodies and two impls, and the customer's functions beside them.
 #![tactic(auto)]
 
 pub mod coils;

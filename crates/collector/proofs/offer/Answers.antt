@@ -1,6 +1,7 @@
 -- `collector::offer` meets its contract: what there is place for goes behind what is held, and is counted.
 -- Assumes nothing.
-use mathlib.Core.Path.{sym, ap}
+use mathlib.Core.Path.{◌≡◌, sym, ap}
+use Prim.Native.Nat.{◌+◌, ◌/◌, ◌%◌}
 use native.Mathlib.Omega.{arith}
 use Rattle.modbus.specs.Paper.{told_with}
 use Rattle.collector.proofs.CollectedLaws.{offered_short, offered_code}
@@ -13,6 +14,8 @@ pub returns : goal.returns
 returns c =
     let n = c.count_of-n in
     let a = c.args in
-    let least = c.least-more in
-    offered_code a.state.now a.bytes.now _ n.result least.result c.extend.result (omega arith) n.ensures.0 n.ensures.1 least.ensures
-    c.extend.ensures
+    let least = c.min-more in
+    let k = n.result + least.result in
+    let h : k / 256 % 256 ≡ k / 256 = omega (arith, n.ensures.0) in
+    rw (c.to_be_bytes.ensures, h)
+    (offered_code a.state.now a.bytes.now _ n.result least.result c.extend.result (omega arith) n.ensures.0 n.ensures.1 least.ensures c.extend.ensures)
