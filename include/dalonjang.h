@@ -14,7 +14,7 @@
  *   thread or interrupt, as long as nobody else uses the lent buffers meanwhile.
  * Stack. Leave 1.25 KiB for a call, and 2 for one that asks. dalonjang_drive takes the most: up to 850 bytes on
  *   cortex-m0, 800 on cortex-m3, 800 on cortex-m4, 800 on armv7, 800 on x86_64, 700 on aarch64; of those that ask
- *   dalonjang_generate_set: up to 1500 bytes on cortex-m0, 1400 on cortex-m3, 1400 on cortex-m4, 1250 on armv7, 1250 on
+ *   dalonjang_generate_set: up to 1400 bytes on cortex-m0, 1350 on cortex-m3, 1350 on cortex-m4, 1250 on armv7, 1200 on
  *   x86_64, 1150 on aarch64; arguments that lie on the stack (at most 104) come on top. No recursion.
  * Interrupts. A call may be interrupted, and may be made in an interrupt that keeps what any C function may change. On
  *   a Cortex-M the processor does that by itself: no register of a floating point unit is touched. On x86-64 and ARM

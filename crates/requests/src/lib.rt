@@ -2,6 +2,8 @@
 // keeps it. No table is looked at: of each table only the number of its cells counts.
 #![tactic(auto)]
 
+mod holdings;
+
 ghost use Rattle.std.specs.Prelude.{true, false, ◌≡◌, ◌+◌, ◌≤◌, length, get_or};
 ghost use Rattle.modbus.specs.Step.{choose, ◌≤?◌, ◌≟◌, ◌and?◌, ◌or?◌};
 ghost use Rattle.modbus.specs.Table.{Tab, coils, discretes, holdings, inputs, kind_of, target};
@@ -13,6 +15,7 @@ ghost use Rattle.requests.specs.Judged.{refused_by, needed, written, write_of, j
 ghost use Rattle.requests.specs.declared.Code.TheVariants as code;
 ghost use Rattle.requests.specs.declared.Refusal.TheVariants.{BadFunction, WrongLength};
 
+use holdings::{judge_both, judge_mask};
 use modbus::CellKind;
 use octets::word;
 
@@ -253,49 +256,6 @@ fn judge_many(
         at: 7,
     };
     judge_address(broadcast, kind, c, cells)
-}
-
-// A mask write. Any masks will do.
-fn judge_mask(body: &[u8], broadcast: bool, cells: usize) -> Result<Request, Refusal>
-    requires { get_or body.now 1 0 ≡ code mask }
-    ensures { (s : Setup) → s.cells holdings ≡ cells → result ≡ judged s broadcast body.now }
-{
-    if body.len() != 8 {
-        return Err(Refusal::WrongLength);
-    }
-    let address = word(body, 2);
-    inside(broadcast, address, 1, cells)?;
-    Ok(Request::Mask(Mask {
-        address: address,
-        and_mask: word(body, 4),
-        or_mask: word(body, 6),
-    }))
-}
-
-// A write of registers and a read of registers: both ranges lie inside the table, or nothing is done. On a broadcast number it is ignored, as a read
-// is.
-fn judge_both(body: &[u8], broadcast: bool, cells: usize) -> Result<Request, Refusal>
-    requires { get_or body.now 1 0 ≡ code both }
-    ensures { (s : Setup) → s.cells holdings ≡ cells → result ≡ judged s broadcast body.now }
-{
-    if broadcast {
-        return Err(Refusal::ReadIgnored);
-    }
-    lengthy(body, 10)?;
-    let x = Exchange {
-        read_address: word(body, 2),
-        read_count: word(body, 4),
-        write_address: word(body, 6),
-        write_count: word(body, 8),
-    };
-    counted(broadcast, x.read_count, 125)?;
-    counted(broadcast, x.write_count, 121)?;
-    if body[10] as usize != octets_of(CellKind::Words, x.write_count) {
-        return Err(refused(broadcast, Code::IllegalDataValue));
-    }
-    inside(broadcast, x.read_address, x.read_count, cells)?;
-    inside(broadcast, x.write_address, x.write_count, cells)?;
-    Ok(Request::Exchange(x))
 }
 
 // A function that is not offered.

@@ -1,11 +1,11 @@
--- `requests::judge_both` meets its contract: each way out is a step of the definition.
+-- `requests::holdings::judge_both` meets its contract: each way out is a step of the definition.
 -- Assumes nothing.
 use mathlib.Core.Path.{sym, ap, ◌∙◌}
 use Rattle.std.specs.Prelude.{Err}
 use Rattle.modbus.specs.Request.{both}
 use Rattle.modbus.proofs.StepLaws.{pick_yes, pick_no}
 use Rattle.requests.proofs.JudgedLaws.{on, off, judged_read, judged_length, judged_value, both_judged, needed_ok, needed_err, needed_out}
-use Rattle.requests.proofs.judge_both.Goals as goal
+use Rattle.requests.proofs.holdings.judge_both.Goals as goal
 
 pub returns-then-broadcast : goal.returns-then-broadcast
 returns-then-broadcast c s z = sym (judged_read s _ _ both c.requires (on _ c.if-broadcast.true) tt)

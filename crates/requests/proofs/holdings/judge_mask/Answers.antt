@@ -1,10 +1,10 @@
--- `requests::judge_mask` meets its contract: each way out is a step of the definition.
+-- `requests::holdings::judge_mask` meets its contract: each way out is a step of the definition.
 -- Assumes nothing.
 use mathlib.Core.Path.{refl, sym, ◌∙◌}
 use Rattle.modbus.specs.Request.{mask}
 use Rattle.modbus.proofs.StepLaws.{pick_yes, pick_no}
 use Rattle.requests.proofs.JudgedLaws.{judged_length, judged_range, needed_ok, needed_err, needed_out}
-use Rattle.requests.proofs.judge_mask.Goals as goal
+use Rattle.requests.proofs.holdings.judge_mask.Goals as goal
 
 pub returns-then-body-ne8 : goal.returns-then-body-ne8
 returns-then-body-ne8 c s z = sym (judged_length s _ _ mask c.requires (λ h. h.1) c.if-body-ne8.true)
