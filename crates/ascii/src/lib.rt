@@ -71,7 +71,7 @@ pub fn low_digit(b: u8) -> u8
     b"0123456789ABCDEF"[(b % 16) as usize]
 }
 
-// Puts the bytes as text to the places from `at` on, and says whether there was room for it; else nothing is put.
+// Puts the bytes as text to the places from `at` on, and says whether there was room for it, as `octets::put_byte` does; else nothing is put.
 pub fn put_text(dst: &mut [u8], at: usize, bytes: &[u8]) -> bool
     ensures { (result, dst.new) ≡ put_text dst.old at bytes.now }
 {

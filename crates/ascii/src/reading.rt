@@ -1,10 +1,10 @@
 // Text into bytes.
-ghost use Rattle.std.specs.Prelude.{◌≡◌, ◌+◌, ◌-◌, ◌*◌, ◌/◌, ◌<◌, ◌≤◌, true, false, ◌⊎◌, ◌↔◌, IsTrue, MatchOption, length, take, drop, slice_index_or};
+ghost use Rattle.std.specs.Prelude.{◌≡◌, ◌+◌, ◌-◌, ◌*◌, ◌/◌, ◌<◌, ◌≤◌, false, ◌⊎◌, ◌↔◌, IsTrue, MatchOption, length, take, drop, slice_index_or};
 ghost use Rattle.std.proofs.lemmas.List.Edits.{sets};
 ghost use Rattle.modbus.specs.Step.{choose, ◌≟◌};
-ghost use Rattle.modbus.specs.Paper.{told, paper};
+ghost use Rattle.modbus.specs.Paper.{paper};
 ghost use Rattle.modbus.specs.Bytes.{All};
-ghost use Rattle.modbus.specs.Hex.{undigit, spell, spelt};
+ghost use Rattle.modbus.specs.Hex.{spell, spelt};
 ghost use Rattle.ascii.specs.Reading.{StopByte, pair, parsed_into};
 ghost use Rattle.ascii.specs.Plain.{Digit, value, pair_values, Plain};
 ghost use Rattle.ascii.specs.Said.{said};

@@ -19,7 +19,7 @@ fn character(h: u8) -> u8
     h + b'0' + more
 }
 
-// Puts two bytes, and says whether there was room for both.
+// Puts two bytes, and says whether there was room for both, as `octets::put_byte` does.
 fn put_two(dst: &mut [u8], at: usize, first: u8, second: u8) -> bool
     ensures { (result, dst.new) ≡ put_two dst.old at first second }
 {

@@ -87,7 +87,7 @@ pub(crate) fn room(record: &[u8]) -> usize {
     word(record, ROOM) as usize
 }
 
-// Where the numbers of the table t stand.
+// Where the numbers of the table t stand. A table goes by its number here: that is in the record, and places are counted by it.
 fn lent(t: u8) -> usize
     ensures { result ≤ 4000 }
 {

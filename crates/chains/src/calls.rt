@@ -62,7 +62,8 @@ fn called(record: &[u8], lent: &mut [u8]) -> bool {
     }
 }
 
-// What is told of the table t: its length (4 bytes), its cells (8), and the byte behind its front.
+// What is told of the table t: its length (4 bytes), its cells (8), and the byte behind its front. A table goes by its number here: that is in
+// the record, and places are counted by it.
 fn table_len(record: &[u8], t: u8) -> usize
     requires { t ≤ 3 }
     ensures { result < 4294967296 }

@@ -92,7 +92,7 @@ fn crc_last(crc: u32, frame: &[u8], n: usize) -> u32
     crc_byte(crc, frame[n - 1])
 }
 
-// The CRC of the first `data_length` bytes of the frame, or of all where it has fewer.
+// The CRC of the first `data_length` bytes of the frame, or of all where it has fewer: so C and the crate hand them over.
 pub fn calc_crc16(frame: &[u8], data_length: u8) -> u16
     ensures { result ≡ crc (take data_length frame.now) }
 {
@@ -132,7 +132,7 @@ pub fn chr_to_hex(c: u8) -> Result<Digit, ErrorKind>
     }
 }
 
-// The switch under which small letters are no digits.
+// The switch under which small letters are no digits. It is C's number: each call that takes it promises an answer for every one.
 const STRICT: u8 = 0;
 
 // What a character stands for under a switch: where it is 0, a-f are no digits.

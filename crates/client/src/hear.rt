@@ -1,5 +1,5 @@
 // Reading: the reply's frame is opened, and its body held against the body of the request.
-ghost use Rattle.std.specs.Prelude.{true, false, ◌≡◌, List, ℕ, ◌≤◌, length, take, get_or, Some, None};
+ghost use Rattle.std.specs.Prelude.{true, false, ◌≡◌, List, ℕ, ◌≤◌, length, get_or, Some, None};
 ghost use Rattle.modbus.specs.Step.{choose, same?};
 ghost use Rattle.modbus.specs.Request.{code, Ask, fn_of};
 ghost use Rattle.modbus.specs.Paper.{proto_of, kind_in};

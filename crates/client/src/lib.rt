@@ -75,7 +75,7 @@ pub(crate) enum Heard {
     Exception(u8),
 }
 
-// The one place where C is told of a request: its length, or why there is none.
+// The one place where C is told of a request: its length, or why there is none. `Answer` and `Result` are of other crates, so this is no `From`.
 fn answer(built: Result<usize, Refusal>) -> Answer
     ensures { result ≡ answer_of built }
 {

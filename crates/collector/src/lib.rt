@@ -18,7 +18,7 @@ const STATE: usize = 259;
 
 const MOST: usize = 257;
 
-// Document 01's outcomes without a frame of our own: another transport, and nothing held.
+// Document 01's outcomes without a frame of our own: another transport, and nothing held. Numbers, since C takes `Driven`.
 const BAD_SETUP: u8 = 10;
 
 const NOTHING_HELD: u8 = 13;
@@ -73,7 +73,7 @@ fn refused(outcome: u8) -> Driven
 {
     Driven {
         length: 0,
-        outcome: outcome,
+        outcome,
         code: 0,
         table: 0,
         first: 0,
@@ -84,7 +84,7 @@ fn refused(outcome: u8) -> Driven
 // The transport's number.
 const RTU: u8 = 0;
 
-// A whole frame, which is one of RTU or none.
+// A whole frame, which is one of RTU or none. The tables are lent one by one, as C lends them (see `driver`).
 fn serve(
     setup: Setup,
     list: &[u8],
@@ -106,7 +106,8 @@ fn serve(
     )
 }
 
-// A quiet signal: what became of the frame that is held, and nothing where none is.
+// A quiet signal: what became of the frame that is held, and nothing where none is. What is held is taken apart by `let .. else`, as the
+// customer asks.
 pub fn quiet(
     setup: Setup,
     list: &[u8],

@@ -1,4 +1,4 @@
-// The library's calls as C links them, by the same names and with the same clauses; include/dalonjang.h says what each call promises. A slice
+// The library's calls as C links them, by the same names and with the same clauses, in a crate of its own, since what C links cannot be built on; include/dalonjang.h says what each call promises. A slice
 // is a pointer, then a length.
 #![tactic(auto)]
 

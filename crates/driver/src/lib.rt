@@ -26,7 +26,7 @@ use tell::{refused, result};
 use transports::{Fault, body_of, start_of};
 
 // The setup's numbers: the transport (0 RTU, 1 ASCII, 2 TCP), our unit number on it, the switch for digits a-f of ASCII frames (0 strict, 1
-// lenient), and how many cells each table is said to have.
+// lenient), and how many cells each table is said to have, all as C gives them.
 #[repr(C)]
 #[derive(Clone, Copy)]
 pub struct Setup {
@@ -40,7 +40,7 @@ pub struct Setup {
 }
 
 // What became of a request: the reply's length, document 01's outcome and code, and the cells that it wrote: their table, by the number of the function
-// that reads it, the first, and how many; without a write these are 0.
+// that reads it, the first, and how many; without a write these are 0. Numbers, since C takes it as it is.
 #[repr(C)]
 #[derive(Clone, Copy, PartialEq, Eq)]
 pub struct Driven {
@@ -114,7 +114,7 @@ fn run(
     )?;
     check_room(setup.transport, reply.len())?;
     let mut raw = [0u8; 256];
-    // By `map_err` the closure's call would stand in every goal behind it.
+    // No `map_err`: it says no more, and the closure's call would stand in every goal behind it.
     let body = match body_of(setup.transport, setup.hex, frame, &mut raw) {
         Ok(body) => body,
         Err(fault) => return Err(unopened(fault)),

@@ -2,12 +2,11 @@
 ghost use Rattle.std.specs.Prelude.{◌≡◌, ◌≤◌, MatchResult, true, false};
 ghost use Rattle.modbus.specs.Paper.{proto_of};
 ghost use Rattle.modbus.specs.Setup.{room_for};
-ghost use Rattle.requests.specs.declared.Refusal.TheVariants.{FrameBroken, NoRoom, BadSetup};
+ghost use Rattle.requests.specs.declared.Refusal.TheVariants.{NoRoom, BadSetup};
 ghost use Rattle.driver.specs.Serving.{Few, Long, Good};
 
 use crate::Setup;
 use requests::Refusal;
-use transports::Fault;
 
 // The tests are asked so that each ends in a branch: whether all are good takes an instruction more for each table (docs/COST.md).
 

@@ -1,6 +1,6 @@
 // The third stage: a verdict is carried out. No other is lent tables, and nothing is left to refuse here: the cells lie inside the tables, so every
 // call on them succeeds. The reply's body goes straight to its place in the reply, which starts at `start`.
-ghost use Rattle.std.specs.Prelude.{◌≡◌, List, [], ◌∷◌, ℕ, ◌+◌, ◌*◌, ◌/◌, ◌≤◌, length, take, get_or};
+ghost use Rattle.std.specs.Prelude.{◌≡◌, [], ◌∷◌, ℕ, ◌+◌, ◌*◌, ◌/◌, ◌≤◌, length, take, get_or};
 ghost use Rattle.std.proofs.lemmas.List.Edits.{sets};
 ghost use Rattle.modbus.specs.Table.{bit, word};
 ghost use Rattle.modbus.specs.Request.{tab_of};

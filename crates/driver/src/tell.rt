@@ -49,7 +49,7 @@ pub(crate) fn result(told: u64, length: usize) -> Driven
     ensures { result ≡ unpacked told length }
 {
     Driven {
-        length: length,
+        length,
         outcome: (told % 256) as u8,
         code: (told / 256 % 256) as u8,
         table: (told / 65536 % 256) as u8,

@@ -8,8 +8,8 @@ use crate::Failure;
 use frame::ModbusFrame;
 use modbus::{ErrorKind, ModbusProto};
 
-// The response is cut or filled to what finalize_response expects: the transaction and the protocol on TCP, else
-// nothing.
+// The response is cut or filled to what finalize_response expects: the transaction and the protocol on TCP, else nothing. The code is a
+// number, as in the state.
 pub(crate) fn set_code(
     frame: &mut ModbusFrame,
     code: u8,

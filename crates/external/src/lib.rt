@@ -25,7 +25,8 @@ pub enum Failure {
     IllegalDataAddress,
 }
 
-// Where a write's data are: a single coil's value itself, or so many bytes of the frame from a place on.
+// Where a write's data are: a single coil's value itself, or so many bytes of the frame from a place on. A place and no slice, since the state
+// borrows nothing. Bits and words are two cases of one struct, as the customer asks.
 #[derive(Clone, Copy, PartialEq, Eq)]
 pub enum Data {
     Value(u8),

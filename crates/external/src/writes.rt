@@ -72,7 +72,7 @@ fn data_len(frame: &ModbusFrame, buf: &[u8]) -> Result<usize, ErrorKind>
     data_behind(buf, start)
 }
 
-// Whether the bytes of the frame up to `end` are there; a sum that overflows is one of up to `first`.
+// Whether the bytes of the frame up to `end` are there, as `outgoing::reach` says; but a sum that overflows is one of up to `first`.
 fn index(buf: &[u8], start: usize, first: usize, end: usize) -> Result<(), ErrorKind>
     ensures { done_paper result ≡ told (indexed buf.now start first end) }
 {

@@ -1,5 +1,5 @@
-// The crate's frame processor (document 01, modules 5 to 7): its state, to which each call is lent the request, the list of broadcast numbers,
-// the response and the tables.
+// The crate's frame processor (document 01, modules 5 to 7): its state, with which each call is lent what it needs of the request, the list of
+// broadcast numbers, the response and the tables, each apart, as document 01 has it.
 #![tactic(auto)]
 
 pub mod changes;

@@ -43,7 +43,7 @@ pub fn overflows(proto: ModbusProto, len: usize) -> bool
     }
 }
 
-// The macro of the crate's parse: whether the check of a frame of `len` bytes is right. More than it can count are FrameBroken.
+// The macro of the crate's parse: whether the check of a frame of `len` bytes is right. It takes the whole buffer, since the crate's check is of its first bytes. More than it can count are FrameBroken.
 pub fn check_frame_crc(
     proto: ModbusProto,
     buf: &[u8],

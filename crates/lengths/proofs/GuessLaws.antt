@@ -86,15 +86,6 @@ sum_fits k x h y = record { fits = omega (arith, y.fits) }
 abbrev pub Small : List ℕ → Type 0
 Small b = (i : ℕ) → get_or b i 0 < 256
 
-pub small_take : (n : ℕ) (b : List ℕ) → Small b → Small (take n b)
-small_take n b h i = by (suc i ≤? n)
-  where
-    by : Dec (suc i ≤ n) → get_or (take n b) i 0 < 256
-    by (yes p) = rw (get_or-take n b i 0 p) (h i)
-    by (no p) =
-        let k : length (take n b) ≤ i = simp length-take (omega (arith, p)) in
-        omega (arith, get_or-eq_default (take n b) 0 k)
-
 request_most : (b : List ℕ) (n : ℕ) → Small b → request_body b ≡ go n → n ≤ 262
 unfolding request_body
 request_most b n h e =

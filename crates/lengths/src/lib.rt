@@ -15,7 +15,8 @@ use ascii::parse_text;
 use modbus::{ErrorKind, ModbusProto};
 use octets::word;
 
-// What a frame is: requests and responses differ only in how the first bytes tell the length of the body.
+// What a frame is: requests and responses differ only in how the first bytes tell the length of the body. An enum and no closure: a call for
+// either side is promised by its name.
 #[derive(Clone, Copy)]
 pub enum Side {
     Request,
@@ -94,15 +95,14 @@ fn frame_len(n: usize, proto: ModbusProto) -> Result<u8, ErrorKind>
     }
 }
 
-// The guess from bytes, of which the first `known` count.
-fn serial_len(side: Side, b: &[u8], known: usize, proto: ModbusProto) -> Result<u8, ErrorKind>
-    requires { known ≤ length b.now }
-    ensures { paper result ≡ told (serial (body_of side) proto (take known b.now)) }
+// The guess from a body's first bytes.
+fn serial_len(side: Side, b: &[u8], proto: ModbusProto) -> Result<u8, ErrorKind>
+    ensures { paper result ≡ told (serial (body_of side) proto b.now) }
 {
-    if known < 2 {
+    if b.len() < 2 {
         return Err(ErrorKind::OOB);
     }
-    frame_len(body_len(side, &b[..known])?, proto)
+    frame_len(body_len(side, b)?, proto)
 }
 
 // The guess from a TCP header, which holds the length of any body.
@@ -124,7 +124,7 @@ fn ascii_len(side: Side, text: &[u8], hex: u8) -> Result<u8, ErrorKind>
 {
     let mut buf = [0u8; 256];
     let known = parse_text(text, text.len(), &mut buf, 0, hex)?;
-    serial_len(side, &buf, known as usize, ModbusProto::Ascii)
+    serial_len(side, &buf[..known as usize], ModbusProto::Ascii)
 }
 
 // The guess under a switch: 0 strict, 1 lenient.
@@ -140,7 +140,7 @@ pub fn guess_frame_len(
         return Err(ErrorKind::OOB);
     }
     match proto {
-        ModbusProto::Rtu => serial_len(side, frame, frame.len(), ModbusProto::Rtu),
+        ModbusProto::Rtu => serial_len(side, frame, ModbusProto::Rtu),
         ModbusProto::Ascii => ascii_len(side, frame, hex),
         ModbusProto::TcpUdp => tcp_len(frame),
     }

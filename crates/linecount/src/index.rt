@@ -67,14 +67,14 @@ impl Room {
         if n < 4 {
             return Counted::default();
         }
-        // No frame begins where fewer than four bytes are left.
+        // No frame begins where fewer than four bytes are left. By place, as below.
         let mut z = 0u16;
         self.places[0] = Place { sum: 0, counted: 0 };
         for k in 1..4usize {
             z ^= added(tables, k, record[n - k]);
             self.places[k] = Place { sum: z, counted: 0 };
         }
-        // Every start from the end on. What `nearest` held before does not matter.
+        // Every start from the end on, by its place: each step reads entries of four tables. What `nearest` held before does not matter.
         let mut c = 0u32;
         for k in 4..n + 1 {
             z ^= added(tables, k, record[n - k]);

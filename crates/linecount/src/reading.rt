@@ -27,7 +27,7 @@ impl From<Fault> for Failure {
     }
 }
 
-// What waits is less than a record, so there is always room for a read: a read into none would look like the end of the log.
+// Bytes, and how many of them wait: there is no heap. What waits is less than a record, so there is always room for a read: a read into none would look like the end of the log.
 #[derive(Drop)]
 struct Buffer {
     bytes: [u8; 65536],

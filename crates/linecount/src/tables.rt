@@ -50,6 +50,7 @@ impl Entries for StartValues {
     }
 }
 
+// By place, since an entry is made of those before it.
 fn fill<T: Entries>(table: &mut [u16])
     ensures { Filled T.entry table.new (length table.new) }
 {

@@ -1,7 +1,7 @@
 // Small total functions on bytes: a byte outside the slice reads as 0, and a byte put outside it changes nothing.
 #![tactic(auto)]
 
-ghost use Rattle.std.specs.Prelude.{true, false, ◌≡◌, min};
+ghost use Rattle.std.specs.Prelude.{true, false, ◌≡◌};
 ghost use Rattle.modbus.specs.Bytes.{word_at};
 ghost use Rattle.modbus.specs.Step.{choose};
 ghost use Rattle.modbus.specs.Unit.{listed?};
@@ -23,7 +23,7 @@ pub fn word(s: &[u8], at: usize) -> u16
     u16::from_be_bytes([byte(s, at), byte(s, at + 1)])
 }
 
-// Puts one byte, and says whether there was room for it.
+// Puts one byte, and says whether there was room for it: there is one way to refuse, so a bool says all.
 pub fn put_byte(dst: &mut [u8], at: usize, b: u8) -> bool
     ensures { (result, dst.new) ≡ put_byte dst.old at b }
 {

@@ -119,7 +119,7 @@ pub fn echo(
     begin(proto, 6, buf, start, 6, out, len)
 }
 
-// An exception: the length field of TCP, unit, function with its highest bit set, code.
+// An exception: the length field of TCP, unit, function with its highest bit set, code, which a caller may give as it likes.
 pub fn except(
     proto: ModbusProto,
     unit: u8,

@@ -26,7 +26,7 @@ pub extern "C" fn probe_calc_lrc(frame: &[u8], data_length: u8) -> Answer
     Answer::from(checks::calc_lrc(frame, data_length))
 }
 
-// The digit, and 16 times its kind: 0 a number, 1 a capital, 2 a small letter.
+// The digit, and 16 times its kind: 0 a number, 1 a capital, 2 a small letter. This crate alone packs it so: `Told` has no number for it.
 fn packed(digit: Digit) -> usize
     ensures { (0, result) ≡ packed (hex_paper (Ok digit)) }
 {

@@ -1,5 +1,5 @@
 // Bits and words: what a request's cells are.
-ghost use Rattle.std.specs.Prelude.{true, false, ◌≡◌, ◌+◌, ◌≤◌, length};
+ghost use Rattle.std.specs.Prelude.{true, false, ◌≡◌, ◌+◌};
 ghost use Rattle.modbus.specs.Paper.{kind_in, told, paper};
 ghost use Rattle.modbus.specs.Step.{choose};
 ghost use Rattle.process.specs.Process.{data_bytes, legal?, data_behind};

@@ -8,9 +8,6 @@ use Rattle.records.specs.declared.Tally.{Tally}
 abbrev pub opening : Reading
 opening = record { at = 0; «have» = 0; ended = false; line = line.Record; len = 0; high = None }
 
-abbrev pub none_run : Tally
-none_run = record { records = 0; wrong = 0 }
-
 abbrev pub one_more : ℕ → ℕ
 one_more n = (n + 1) % 2 ^ 64
 

@@ -3,34 +3,25 @@
 #![tactic(auto)]
 
 pub mod parts;
-mod reading;
+pub mod reading;
 
 ghost use Rattle.std.specs.Prelude.{◌≡◌, true, false};
 ghost use Rattle.modbus.specs.Step.{choose, ◌≟◌};
-ghost use Rattle.records.specs.Counted.{none_run, tallied};
+ghost use Rattle.records.specs.Counted.{tallied};
 
 use reading::{Reading, next};
 use std::io::{Stdin, Stdout, Write};
 
 // How many records were run, and how many of them were answered otherwise.
-#[derive(Clone, Copy)]
+#[derive(Clone, Copy, Default)]
 pub struct Tally {
     pub records: u64,
     pub wrong: u64,
 }
 
 impl Tally {
-    fn new() -> Tally
-        ensures { result ≡ none_run }
-    {
-        Tally {
-            records: 0,
-            wrong: 0,
-        }
-    }
-
     // One record more; where it was not right, it is named by its number.
-    fn judge(&mut self, out: Stdout, right: bool)
+    pub fn judge(&mut self, out: Stdout, right: bool)
         ensures { self.new ≡ tallied self.old right }
     {
         self.records = std::num::wrapping_add_u64(self.records, 1);
@@ -50,7 +41,7 @@ pub fn run<F: FnMut(&[u8]) -> bool>(input: Stdin, out: Stdout, most: u32, mut ag
     let mut text = [0; 4096];
     let mut record = [0; 4096];
     let mut reading = Reading::new();
-    let mut tally = Tally::new();
+    let mut tally = Tally::default();
     for _ in 0..most {
         let Some(len) = next(&mut reading, input, &mut text, &mut record) else {
             return tally;

@@ -14,7 +14,7 @@ enum Line {
 
 // Where the reading stands: in the text that was read last, and in the line, of which so many bytes are read and maybe the high half of one more.
 #[derive(Clone, Copy)]
-pub(crate) struct Reading {
+pub struct Reading {
     at: usize,
     have: usize,
     ended: bool,
@@ -25,7 +25,7 @@ pub(crate) struct Reading {
 
 impl Reading {
     // Before anything is read.
-    pub(crate) fn new() -> Reading
+    pub fn new() -> Reading
         ensures { result ≡ opening }
     {
         Reading {
@@ -139,12 +139,7 @@ fn step(s: &mut Reading, input: Stdin, text: &mut [u8], record: &mut [u8]) -> Op
 
 // The next record at the front of `record`: how many bytes it has, or none where the list has ended. A proved loop has to end, and nothing says
 // that the input does: so the loop counts its turns, up to a number that no line reaches.
-pub(crate) fn next(
-    s: &mut Reading,
-    input: Stdin,
-    text: &mut [u8],
-    record: &mut [u8],
-) -> Option<usize>
+pub fn next(s: &mut Reading, input: Stdin, text: &mut [u8], record: &mut [u8]) -> Option<usize>
     requires { s.old.len ≤ length «record».old }
     ensures bounded { s.new.len ≤ length «record».new }
     ensures found { IfSome result (λ n. n ≤ length «record».new) }

@@ -8,7 +8,7 @@ use modbus::{Answer, ModbusProto};
 // The bytes of a record before its input.
 const HEAD: usize = 11;
 
-// What the port answers to a guess, strict.
+// What the port answers to a guess, strict. The C library has the same with its switch; this program is not built on that.
 fn guess(side: Side, input: &[u8], proto: u8) -> Answer {
     match ModbusProto::try_from(proto) {
         Ok(p) => Answer::from(lengths::guess_frame_len(side, input, p, 0)),

@@ -1,5 +1,5 @@
 // Requests on holdings alone: a mask write, and a write and read.
-ghost use Rattle.std.specs.Prelude.{◌≡◌, length, get_or};
+ghost use Rattle.std.specs.Prelude.{◌≡◌, get_or};
 ghost use Rattle.modbus.specs.Table.{holdings};
 ghost use Rattle.modbus.specs.Request.{code, mask, both};
 ghost use Rattle.modbus.specs.Setup.{Setup};
@@ -20,7 +20,7 @@ pub(crate) fn judge_mask(body: &[u8], broadcast: bool, cells: usize) -> Result<R
     let address = word(body, 2);
     inside(broadcast, address, 1, cells)?;
     Ok(Request::Mask(Mask {
-        address: address,
+        address,
         and_mask: word(body, 4),
         or_mask: word(body, 6),
     }))

@@ -7,7 +7,7 @@ mod holdings;
 ghost use Rattle.std.specs.Prelude.{true, false, ◌≡◌, ◌+◌, ◌≤◌, length, get_or};
 ghost use Rattle.modbus.specs.Step.{choose, ◌≤?◌, ◌≟◌, ◌and?◌, ◌or?◌};
 ghost use Rattle.modbus.specs.Table.{Tab, coils, discretes, holdings, inputs, kind_of, target};
-ghost use Rattle.modbus.specs.Request.{reads, one, many, mask, both, code, most_read, most_written, octets};
+ghost use Rattle.modbus.specs.Request.{reads, one, many, code, most_read, most_written, octets};
 ghost use Rattle.modbus.specs.Paper.{kind_in};
 ghost use Rattle.modbus.specs.Setup.{Setup};
 ghost use Rattle.modbus.specs.Decode.{valued?};
@@ -19,7 +19,7 @@ use holdings::{judge_both, judge_mask};
 use modbus::CellKind;
 use octets::word;
 
-// A read: its function tells the table.
+// A read: its function tells the table, by the number as in the body.
 #[derive(Clone, Copy)]
 pub struct ReadCells {
     pub address: u16,
@@ -52,7 +52,7 @@ pub struct Exchange {
     pub write_count: u16,
 }
 
-// What a request asks. Bits and words are two variants, and not one around an enum: a second tag costs 10 to 20 instructions (docs/COST.md).
+// What a request asks. Bits and words are two variants, and not one around an enum: the second tag costs instructions (docs/COST.md).
 #[derive(Clone, Copy)]
 pub enum Request {
     Read(ReadCells),
@@ -143,8 +143,8 @@ fn judge_read(body: &[u8], broadcast: bool, most: u16, cells: usize) -> Result<R
     let address = word(body, 2);
     inside(broadcast, address, count, cells)?;
     Ok(Request::Read(ReadCells {
-        address: address,
-        count: count,
+        address,
+        count,
         function: body[1],
     }))
 }
@@ -252,7 +252,7 @@ fn judge_many(
     }
     let c = Cells {
         address: word(body, 2),
-        count: count,
+        count,
         at: 7,
     };
     judge_address(broadcast, kind, c, cells)

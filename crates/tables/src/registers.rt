@@ -1,5 +1,5 @@
 // Tables of registers: two bytes a cell, high byte first.
-ghost use Rattle.std.specs.Prelude.{◌≡◌, ◌*◌, ◌≤◌, length};
+ghost use Rattle.std.specs.Prelude.{◌≡◌, ◌*◌};
 ghost use Rattle.modbus.specs.Paper.{told, told_with, paper, done_paper};
 ghost use Rattle.modbus.specs.Storage.{registers, size};
 ghost use Rattle.tables.specs.Calls.{got, changed, added, stored_whole, named_in, named};
@@ -107,7 +107,7 @@ fn part_of<'a>(table: &'a [u8], cells: usize, reg: u16, count: u16) -> &'a [u8]
     &table[2 * first..2 * end]
 }
 
-// The part of the holdings or of the inputs that a register read names, uncopied.
+// The part of the holdings or of the inputs that a register read names by its function's number, uncopied; else an empty part, as the customer asks.
 pub fn read_registers<'a>(
     holdings: &'a [u8],
     holding_cells: usize,

@@ -2,7 +2,6 @@
 -- Assumes nothing.
 use mathlib.Core.Path.{sym, ap, ◌∙◌}
 use native.Mathlib.Omega.{arith}
-use lib.Seq.{take-length}
 use Rattle.modbus.specs.Paper.{told}
 use Rattle.modbus.proofs.StepLaws.{pass, fail}
 use Rattle.lengths.specs.Guess.{guess}
@@ -13,7 +12,7 @@ returns-then-hex-gt1 c = sym (ap told (fail _ _ _ (λ h. omega (arith, h))))
 
 pub returns-in-Rtu : goal.returns-in-Rtu
 unfolding guess
-returns-in-Rtu c = rw c.in-Rtu.is ((rw take-length at c.serial_len.ensures) ∙ sym (ap told (pass _ _ _ (omega arith))))
+returns-in-Rtu c = rw c.in-Rtu.is (c.serial_len.ensures ∙ sym (ap told (pass _ _ _ (omega arith))))
 
 pub returns-in-Ascii : goal.returns-in-Ascii
 returns-in-Ascii c = rw c.in-Ascii.is (c.ascii_len.ensures ∙ sym (ap told (pass _ _ _ (omega arith))))
