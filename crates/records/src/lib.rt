@@ -5,7 +5,7 @@
 pub mod parts;
 pub mod reading;
 
-ghost use Rattle.std.specs.Prelude.{◌≡◌, true, false};
+ghost use Rattle.std.specs.Prelude.{◌≡◌, ◌≤◌, true, false};
 ghost use Rattle.modbus.specs.Step.{choose, ◌≟◌};
 ghost use Rattle.records.specs.Counted.{tallied};
 
@@ -37,12 +37,13 @@ impl Tally {
 // number that no list reaches.
 pub fn run<F: FnMut(&[u8]) -> bool>(input: Stdin, out: Stdout, most: u32, mut agrees: F) -> Tally
     requires { F.IsAlwaysCallable agrees }
+    ensures { (result.wrong ≤ result.records) × (result.records ≤ most) }
 {
     let mut text = [0; 4096];
     let mut record = [0; 4096];
     let mut reading = Reading::new();
     let mut tally = Tally::default();
-    for _ in 0..most {
+    for turn in 0..most {
         let Some(len) = next(&mut reading, input, &mut text, &mut record) else {
             return tally;
         };

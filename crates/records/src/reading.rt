@@ -38,6 +38,15 @@ impl Reading {
         }
     }
 
+    // At the same place in the text a line begins.
+    fn begin_line(&mut self)
+        ensures { self.new.len ≡ 0 }
+    {
+        self.line = Line::Record;
+        self.len = 0;
+        self.high = None;
+    }
+
     // A line has ended, and the next begins. Answers how many bytes its record has, if it has one: what is no record although it should be one
     // is a record of no bytes.
     fn close(&mut self) -> Option<usize>
@@ -47,9 +56,7 @@ impl Reading {
         let line = self.line;
         let len = self.len;
         let half = self.high.is_some();
-        self.line = Line::Record;
-        self.len = 0;
-        self.high = None;
+        self.begin_line();
         match line {
             Line::Broken => Some(0),
             Line::Remark => None,
@@ -140,10 +147,10 @@ fn step(s: &mut Reading, input: Stdin, text: &mut [u8], record: &mut [u8]) -> Op
 // The next record at the front of `record`: how many bytes it has, or none where the list has ended. A proved loop has to end, and nothing says
 // that the input does: so the loop counts its turns, up to a number that no line reaches.
 pub fn next(s: &mut Reading, input: Stdin, text: &mut [u8], record: &mut [u8]) -> Option<usize>
-    requires { s.old.len ≤ length «record».old }
     ensures bounded { s.new.len ≤ length «record».new }
     ensures found { IfSome result (λ n. n ≤ length «record».new) }
 {
+    s.begin_line();
     for _ in 0..1000000000u32 {
         if s.ended {
             return None;

@@ -1,8 +1,8 @@
--- `records::run` hands on records within its buffer, is safe and ends.
+-- `records::run` counts a record a turn, is safe and ends.
 -- Assumes nothing.
-use Rattle.std.proofs.Common.{◌≤◌, length}
+use Rattle.std.proofs.Common.{◌≤◌}
 use denote.Param.Always.{always_mut}
 use Rattle.records.proofs.run.Given as goal
 
-abbrev pub invariant-loop : goal.invariant-loop
-invariant-loop g l = (l.reading.len ≤ length l.«record») × (always_mut g.F.FnMut l.initial.agrees → always_mut g.F.FnMut l.agrees)
+abbrev pub invariant-loop-turn : goal.invariant-loop-turn
+invariant-loop-turn g l = (l.turn ≤ l.initial.most) × (l.tally.wrong ≤ l.tally.records) × (l.tally.records ≤ l.turn) × (always_mut g.F.FnMut l.initial.agrees → always_mut g.F.FnMut l.agrees)
