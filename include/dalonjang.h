@@ -12,7 +12,7 @@
  *   The calls cannot see an overlap and do not refuse it.
  * State. There is none: no allocation, no static data, no input or output. Every call is reentrant and may run in any
  *   thread or interrupt, as long as nobody else uses the lent buffers meanwhile.
- * Stack. Leave 1.25 KiB for a call, and 2 for one that asks. dalonjang_drive takes the most: up to 850 bytes on
+ * Stack. Leave 1.25 KiB for a call, and 2 for one that asks. dalonjang_drive takes the most: up to 900 bytes on
  *   cortex-m0, 800 on cortex-m3, 800 on cortex-m4, 800 on armv7, 800 on x86_64, 700 on aarch64; of those that ask
  *   dalonjang_generate_set: up to 1400 bytes on cortex-m0, 1350 on cortex-m3, 1350 on cortex-m4, 1250 on armv7, 1200 on
  *   x86_64, 1150 on aarch64; arguments that lie on the stack (at most 104) come on top. No recursion.

@@ -7,6 +7,7 @@ mod fields;
 
 ghost use Rattle.std.specs.Prelude.{◌≤◌};
 
+use records::Program;
 use records::parts::{lay, stands};
 
 // Room for tables of one cell more than there may be, and for every reply buffer of the list.
@@ -155,23 +156,29 @@ fn with_read(record: &[u8], filler: u8) -> bool {
     cut_read(record, &mut discretes, &mut inputs, filler)
 }
 
-// Whether all comes out as the record says. It runs twice, with two fillers: a byte written behind the reply cannot be
-// equal to both.
-fn agrees(record: &[u8]) -> bool {
-    if !fields::LAYOUT.is_whole(record) {
-        return false;
+// Each case lays its own tables.
+#[derive(Drop)]
+struct Cases;
+
+impl Program for Cases {
+    // Whether all comes out as the record says. It runs twice, with two fillers: a byte written behind the reply cannot be
+    // equal to both.
+    fn agrees(&mut self, record: &[u8]) -> bool {
+        if !fields::LAYOUT.is_whole(record) {
+            return false;
+        }
+        if !with_read(record, 0) {
+            return false;
+        }
+        with_read(record, 255)
     }
-    if !with_read(record, 0) {
-        return false;
-    }
-    with_read(record, 255)
 }
 
 // No list has so many records.
 const MOST: u32 = 1000000;
 
 fn main(rt: HostRuntime) {
-    let tally = records::run(rt.stdin(), rt.stdout(), MOST, agrees);
+    let tally = records::run(rt.stdin(), rt.stdout(), MOST, &mut Cases);
     records::report(
         rt.stdout(),
         tally,

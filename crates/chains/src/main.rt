@@ -8,19 +8,32 @@ mod fields;
 mod said;
 mod state;
 
+use records::Program;
+
+// Room for the lent response and the tables of every record.
+#[derive(Drop)]
+struct Chains {
+    lent: [u8; 4096],
+    bits: [u8; calls::BITS],
+    words: [u8; calls::WORDS],
+}
+
+impl Program for Chains {
+    fn agrees(&mut self, record: &[u8]) -> bool {
+        calls::agrees(record, &mut self.bits, &mut self.words, &mut self.lent)
+    }
+}
+
 // No list has so many records.
 const MOST: u32 = 1000000000;
 
 fn main(rt: HostRuntime) {
-    let mut lent = [0; 4096];
-    let mut bits = [0; calls::BITS];
-    let mut words = [0; calls::WORDS];
-    let tally = records::run(
-        rt.stdin(),
-        rt.stdout(),
-        MOST,
-        |record| calls::agrees(record, &mut bits, &mut words, &mut lent),
-    );
+    let mut chains = Chains {
+        lent: [0; 4096],
+        bits: [0; calls::BITS],
+        words: [0; calls::WORDS],
+    };
+    let tally = records::run(rt.stdin(), rt.stdout(), MOST, &mut chains);
     records::report(
         rt.stdout(),
         tally,

@@ -3,16 +3,17 @@
 -- Assumes nothing.
 use mathlib.Core.Path.{◌≡◌, refl, sym, ap, ap₂, ◌∙◌}
 use mathlib.Core.List.{List, [], ◌∷◌}
-use Prim.Native.Nat.{ℕ, ◌+◌, ◌-◌, ◌*◌, ◌/◌, ◌≤◌, ◌<◌}
+use Prim.Native.Nat.{ℕ, ◌+◌, ◌-◌, ◌*◌, ◌/◌, ◌%◌, ◌≤◌, ◌<◌}
 use native.Mathlib.Omega.{arith}
 use lib.ListN.{length, take, drop, length-drop}
 use lib.Seq.{sets, length-take-le}
 use Rattle.modbus.specs.Table.{word, part}
 use Rattle.modbus.specs.Request.{octets, shown}
-use Rattle.modbus.specs.Paper.{told_with, paper_by}
+use Rattle.modbus.specs.Paper.{told_with, paper_by, done_paper}
+use Rattle.modbus.specs.Step.{Step}
 use Rattle.modbus.specs.declared.ErrorKind.{ErrorKind}
 use Rattle.modbus.specs.declared.ErrorKind.TheVariants.{OOB, OOBContext, FrameBroken, FrameCRCError, IllegalDataValue, ReadCallOnWriteFrame, WriteCallOnReadFrame}
-use Rattle.std.specs.Prelude.{Result, Ok, Err}
+use Rattle.std.specs.Prelude.{Result, Ok, Err, ⊤}
 use Rattle.std.specs.Result.{IsOk}
 use Rattle.modbus.specs.Bytes.{word_at}
 use Rattle.modbus.specs.Storage.{Storage, registers, register_at, put_register, Sound, store, values}
@@ -125,6 +126,18 @@ words_done l cells sound x o b from reg count e h k =
     let z : (from + 2 * count) - from ≡ 2 * count = omega arith in
     let n : length d ≡ 2 * count = length-take-le _ _ (simp length-drop (omega arith)) in
     stored_done registers l cells sound x o reg count d ((rw z at e) ∙ ap (told_with l) (stored_whole_law l cells reg count d n)) h n
+
+-- the same as an equation on what the call is said to do, and what its answer then is
+pub words_told : (l : List ℕ) (cells reg n from : ℕ) (b : List ℕ) → Sound registers l cells → reg + n / 2 ≤ cells → from + n ≤ length b → n % 2 ≡ 0
+    → (told_with l (stored_whole l cells reg (take n (drop from b)))).0 ≡ (0, 0)
+words_told l cells reg n from b sound h k even =
+    let d = take n (drop from b) in
+    let m : length d ≡ 2 * (n / 2) = length-take-le _ _ (simp length-drop (omega arith)) ∙ omega arith in
+    ap (λ (s : Step ErrorKind (ℕ × List ℕ)). (told_with l s).0)
+    (stored_whole_law l cells reg (n / 2) d m ∙ stored_inside registers l cells reg (n / 2) d (rw (size_sound registers l cells sound) h) m)
+
+pub done_holds : (r : Result ⊤ ErrorKind) → done_paper r ≡ (0, 0) → IsOk r
+done_holds r e = holds_by _ r (ap (λ (p : ℕ × ℕ). p.0) e)
 
 -- a single register
 pub single_word : (l b : List ℕ) (c : Cells) → c.at ≡ 4 → c.count ≡ 1 → 6 ≤ length b

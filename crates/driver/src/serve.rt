@@ -127,6 +127,7 @@ fn write_bits(c: Cells, cells: usize, body: &[u8], coils: &mut [u8])
 }
 
 // A single register goes its own way, which costs less.
+#[tactic(auto, using(crate::proofs::ReplyLaws::words_told, crate::proofs::ReplyLaws::done_holds))]
 fn write_words(c: Cells, cells: usize, body: &[u8], holdings: &mut [u8])
     requires { (c.address + c.count ≤ cells) × (c.at + 2 * c.count ≤ length body.now) × (c.at ≡ 4 → c.count ≡ 1) × Sound registers holdings.old cells }
     ensures { holdings.new ≡ store registers holdings.old c.address (data_of word body.now c) }

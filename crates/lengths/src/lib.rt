@@ -127,13 +127,8 @@ fn ascii_len(side: Side, text: &[u8], hex: u8) -> Result<u8, ErrorKind>
     serial_len(side, &buf[..known as usize], ModbusProto::Ascii)
 }
 
-// The guess under a switch: 0 strict, 1 lenient.
-pub fn guess_frame_len(
-    side: Side,
-    frame: &[u8],
-    proto: ModbusProto,
-    hex: u8,
-) -> Result<u8, ErrorKind>
+// The guess for a side under a switch: 0 strict, 1 lenient.
+fn guess_for(side: Side, frame: &[u8], proto: ModbusProto, hex: u8) -> Result<u8, ErrorKind>
     ensures { paper result ≡ told (guess_under hex (body_of side) proto frame.now) }
 {
     if 1 < hex {
@@ -150,12 +145,27 @@ pub fn guess_frame_len(
 pub fn guess_request_frame_len(frame: &[u8], proto: ModbusProto, hex: u8) -> Result<u8, ErrorKind>
     ensures { paper result ≡ told (guess_under hex request_body proto frame.now) }
 {
-    guess_frame_len(Side::Request, frame, proto, hex)
+    guess_for(Side::Request, frame, proto, hex)
 }
 
 // How long the response is that these bytes begin.
 pub fn guess_response_frame_len(buf: &[u8], proto: ModbusProto, hex: u8) -> Result<u8, ErrorKind>
     ensures { paper result ≡ told (guess_under hex response_body proto buf.now) }
 {
-    guess_frame_len(Side::Response, buf, proto, hex)
+    guess_for(Side::Response, buf, proto, hex)
+}
+
+// For whoever has a side: the ported call of that side.
+pub fn guess_frame_len(
+    side: Side,
+    frame: &[u8],
+    proto: ModbusProto,
+    hex: u8,
+) -> Result<u8, ErrorKind>
+    ensures { paper result ≡ told (guess_under hex (body_of side) proto frame.now) }
+{
+    match side {
+        Side::Request => guess_request_frame_len(frame, proto, hex),
+        Side::Response => guess_response_frame_len(frame, proto, hex),
+    }
 }

@@ -7,6 +7,9 @@ use mathlib.Core.List.{List}
 use Prim.Native.Nat.{ℕ}
 use lib.Dec.{eqb}
 use contract.Lifetimes.{Lfts}
+use denote.RattleType.{RattleType}
+use denote.Param.Laws.{Laws}
+use mir.Syntax.{Dict}
 use borrow.Fn.Kinds.{ParamKind, ResultKind, Out, Dens, res_t, ended_of}
 use denote.Triple.Clauses.{Lasts, at_exit}
 use Rattle.std.proofs.Common.{true≢false}
@@ -17,6 +20,7 @@ use Rattle.modbus.specs.declared.ErrorKind.TheVariants.{OOB, OOBContext, FrameBr
 use Rattle.modbus.specs.declared.ModbusProto.{ModbusProto}
 use Rattle.modbus.specs.declared.ModbusProto.TheVariants.{Rtu, Ascii, TcpUdp}
 use Rattle.modbus.specs.declared.Answer.{Answer}
+use Rattle.modbus.specs.declared.Told as told
 use Rattle.modbus.specs.declared.BadSetup.{BadSetup}
 use Rattle.modbus.specs.declared.Digit.{Digit}
 use Rattle.modbus.specs.declared.Digit.TheVariants.{Number, Capital, Small}
@@ -26,6 +30,18 @@ use Rattle.modbus.proofs.AnswerFromErrorKind.from.Kinds as refused-answer-kinds
 use Rattle.modbus.proofs.AnswerFromErrorKind.from.Reads as refused-answer-reads
 use Rattle.modbus.proofs.AnswerFromBadSetup.from.Kinds as setup-answer-kinds
 use Rattle.modbus.proofs.AnswerFromBadSetup.from.Reads as setup-answer-reads
+use Rattle.modbus.proofs.AnswerFromResultErrorKind.from.Kinds as result-answer-kinds
+use Rattle.modbus.proofs.AnswerFromResultErrorKind.from.Reads as result-answer-reads
+use Rattle.modbus.proofs.U8Told.told.Kinds as byte-told-kinds
+use Rattle.modbus.proofs.U8Told.told.Reads as byte-told-reads
+use Rattle.modbus.proofs.U16Told.told.Kinds as word-told-kinds
+use Rattle.modbus.proofs.U16Told.told.Reads as word-told-reads
+use Rattle.modbus.proofs.UsizeTold.told.Kinds as size-told-kinds
+use Rattle.modbus.proofs.UsizeTold.told.Reads as size-told-reads
+use Rattle.modbus.proofs.BoolTold.told.Kinds as bit-told-kinds
+use Rattle.modbus.proofs.BoolTold.told.Reads as bit-told-reads
+use Rattle.modbus.proofs.UnitTold.told.Kinds as done-told-kinds
+use Rattle.modbus.proofs.UnitTold.told.Reads as done-told-reads
 use Rattle.modbus.proofs.ModbusProtoTryFromU8.try_from.Kinds as proto-of-kinds
 use Rattle.modbus.proofs.ModbusProtoTryFromU8.try_from.Reads as proto-of-reads
 
@@ -161,3 +177,24 @@ setup_answer κs a x y u v p q = (answer_paper x y (p ∙ sym q), refl)
 pub called_answer : {A : Type 0} (f : A → ℕ) (r : Result A ErrorKind) (x y : Answer)
     → ◌≡◌ {A = ℕ × ℕ} (x.kind, x.value) (paper_by f r) → ◌≡◌ {A = ℕ × ℕ} (y.kind, y.value) (paper_by f r) → x ≡ y
 called_answer f r x y p q = answer_paper x y (p ∙ sym q)
+
+-- of what a call answers, whatever the type of its value
+module _ (T : RattleType) (L : Laws T) (tells : told.Ghosts T.Denot) (dict : Dict) where
+  pub result_answer : Unique 1 (result-answer-kinds.ps T L) (result-answer-kinds.r T L) (result-answer-reads.Post T L tells dict)
+  result_answer κs (Ok r, _) x y u v p q = (answer_paper x y (p ∙ sym q), refl)
+  result_answer κs (Err k, _) x y u v p q = (answer_paper x y (p ∙ sym q), refl)
+
+pub byte_told : Unique 0 byte-told-kinds.ps byte-told-kinds.r byte-told-reads.Post
+byte_told κs a x y u v p q = (p ∙ sym q, refl)
+
+pub word_told : Unique 0 word-told-kinds.ps word-told-kinds.r word-told-reads.Post
+word_told κs a x y u v p q = (p ∙ sym q, refl)
+
+pub size_told : Unique 0 size-told-kinds.ps size-told-kinds.r size-told-reads.Post
+size_told κs a x y u v p q = (p ∙ sym q, refl)
+
+pub bit_told : Unique 0 bit-told-kinds.ps bit-told-kinds.r bit-told-reads.Post
+bit_told κs a x y u v p q = (p ∙ sym q, refl)
+
+pub done_told : Unique 0 done-told-kinds.ps done-told-kinds.r done-told-reads.Post
+done_told κs a x y u v p q = (p ∙ sym q, refl)

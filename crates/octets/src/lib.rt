@@ -1,7 +1,8 @@
 // Small total functions on bytes: a byte outside the slice reads as 0, and a byte put outside it changes nothing.
 #![tactic(auto)]
 
-ghost use Rattle.std.specs.Prelude.{true, false, ◌≡◌};
+ghost use Rattle.std.specs.Prelude.{true, false, ◌≡◌, nat_eq};
+ghost use Rattle.std.specs.List.{list_any};
 ghost use Rattle.modbus.specs.Bytes.{word_at};
 ghost use Rattle.modbus.specs.Step.{choose};
 ghost use Rattle.modbus.specs.Unit.{listed?};
@@ -37,6 +38,13 @@ pub fn put_byte(dst: &mut [u8], at: usize, b: u8) -> bool
 // Whether the byte stands in the slice.
 pub fn contains(s: &[u8], b: u8) -> bool
     ensures { result ≡ choose (listed? b s.now) true false }
+{
+    stands(s, b)
+}
+
+// The library's search, in the list's words.
+fn stands(s: &[u8], b: u8) -> bool
+    ensures { result ≡ list_any (λ y. nat_eq y b) s.now }
 {
     s.contains(&b)
 }

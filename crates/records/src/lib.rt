@@ -33,10 +33,15 @@ impl Tally {
     }
 }
 
+// A program that runs a list. A trait and no closure: of a closure `run` would have to require that it may be called.
+pub trait Program {
+    // Whether what the record says came out.
+    fn agrees(&mut self, record: &[u8]) -> bool;
+}
+
 // Runs the list, record by record. A proved loop has to end, and nothing says that the list does: so the loop counts its turns, up to a
 // number that no list reaches.
-pub fn run<F: FnMut(&[u8]) -> bool>(input: Stdin, out: Stdout, most: u32, mut agrees: F) -> Tally
-    requires { F.IsAlwaysCallable agrees }
+pub fn run<P: Program>(input: Stdin, out: Stdout, most: u32, program: &mut P) -> Tally
     ensures { (result.wrong ≤ result.records) × (result.records ≤ most) }
 {
     let mut text = [0; 4096];
@@ -47,7 +52,7 @@ pub fn run<F: FnMut(&[u8]) -> bool>(input: Stdin, out: Stdout, most: u32, mut ag
         let Some(len) = next(&mut reading, input, &mut text, &mut record) else {
             return tally;
         };
-        tally.judge(out, agrees(&record[..len]));
+        tally.judge(out, program.agrees(&record[..len]));
     }
     tally
 }

@@ -4,6 +4,7 @@
 
 use lengths::Side;
 use modbus::{Answer, ModbusProto};
+use records::Program;
 
 // The bytes of a record before its input.
 const HEAD: usize = 11;
@@ -70,17 +71,24 @@ fn replayed(record: &[u8], lent: &mut [u8]) -> bool {
     agrees(record, &record[HEAD..from], &record[from..], &mut lent[..m])
 }
 
+// Room for the lent buffer of every record.
+#[derive(Drop)]
+struct Replay {
+    lent: [u8; 4096],
+}
+
+impl Program for Replay {
+    fn agrees(&mut self, record: &[u8]) -> bool {
+        replayed(record, &mut self.lent)
+    }
+}
+
 // No list has so many records.
 const MOST: u32 = 1000000;
 
 fn main(rt: HostRuntime) {
-    let mut lent = [0; 4096];
-    let tally = records::run(
-        rt.stdin(),
-        rt.stdout(),
-        MOST,
-        |record| replayed(record, &mut lent),
-    );
+    let mut replay = Replay { lent: [0; 4096] };
+    let tally = records::run(rt.stdin(), rt.stdout(), MOST, &mut replay);
     records::report(
         rt.stdout(),
         tally,

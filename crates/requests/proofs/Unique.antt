@@ -1,4 +1,4 @@
--- The contract leaves one possible result: that for a setup with these numbers of cells, of which there is one.
+-- Each contract leaves one possible result; that of `judge` is the one for a setup with these numbers of cells, of which there is one.
 -- Assumes nothing.
 use mathlib.Core.Path.{◌≡◌, refl, sym, ◌∙◌}
 use mathlib.Core.Bool.{cond}
@@ -15,6 +15,8 @@ use Rattle.requests.specs.declared.Code.{Code}
 use Rattle.requests.specs.declared.Code.TheVariants.{IllegalFunction, IllegalDataAddress, IllegalDataValue}
 use Rattle.requests.specs.declared.Refusal.{Refusal}
 use Rattle.requests.specs.declared.Refusal.TheVariants.{Exception, Ignored, ReadIgnored, Foreign, FrameBroken, FrameCheck, WrongLength, BadFunction, NoRoom, BadSetup}
+use Rattle.requests.proofs.U8FromCode.from.Kinds as code-kinds
+use Rattle.requests.proofs.U8FromCode.from.Reads as code-reads
 use Rattle.requests.proofs.judge.Kinds as judge-kinds
 use Rattle.requests.proofs.judge.Reads as judge-reads
 
@@ -65,7 +67,7 @@ verdict_back_law (Err BadSetup) = refl
 pub verdict_paper_law : (x y : Verdict) → verdict_paper x ≡ verdict_paper y → x ≡ y
 verdict_paper_law = by_back verdict_paper verdict_back verdict_back_law
 
--- ---- the public function
+-- ---- the public functions
 
 abbrev sizes : ℕ → ℕ → ℕ → ℕ → Sizes
 sizes c d h i coils = c
@@ -80,3 +82,6 @@ pub judge : Unique 1 judge-kinds.ps judge-kinds.r judge-reads.Post
 judge κs a x y u v p q =
     let s = setup a.1.1.0 a.1.1.1.0 a.1.1.1.1.0 a.1.1.1.1.1.0 in
     (verdict_paper_law x y (p s (refl, refl, refl, refl) ∙ sym (q s (refl, refl, refl, refl))), refl)
+
+pub code_of : Unique 0 code-kinds.ps code-kinds.r code-reads.Post
+code_of κs a x y u v p q = (p ∙ sym q, refl)

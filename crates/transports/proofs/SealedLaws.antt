@@ -1,14 +1,16 @@
 -- A frame laid over the front of the reply, in which its body stands.
 -- Assumes nothing.
 use Rattle.std.proofs.Common.{◌≡◌, ℕ, suc, ◌+◌, ◌*◌, ◌/◌, ◌%◌, ◌≤◌, List, [], ◌∷◌, ◌++◌, length, take, drop, set, sym, refl, ap, ◌∙◌, append_assoc, add-one, arith, length-drop, length-set, take-append-drop, length-take-le, take-take, drop-drop}
-use Rattle.std.specs.Prelude.{Option, Some, None}
+use Rattle.std.specs.Prelude.{Option, Some, None, Result}
 use Rattle.std.specs.Array.{IsFirstChunk}
 use lib.Seq.{sets, sets-eq}
 use Rattle.modbus.specs.Check.{crc, lrc}
 use Rattle.modbus.specs.Hex.{digit, text}
+use Rattle.modbus.specs.Paper.{told_with, paper}
 use Rattle.modbus.specs.Setup.{room_for}
 use Rattle.modbus.specs.Frame.{wrap, start_of, around}
 use Rattle.modbus.specs.Decode.{crc_bytes}
+use Rattle.modbus.specs.declared.ErrorKind.{ErrorKind}
 use Rattle.modbus.specs.declared.ModbusProto.{ModbusProto}
 use Rattle.modbus.specs.declared.ModbusProto.TheVariants.{Rtu, Ascii, TcpUdp}
 use Rattle.modbus.proofs.StepLaws.{pick_yes, pick_no}
@@ -17,7 +19,10 @@ use Rattle.modbus.proofs.CheckLaws.{lrc_lt}
 use Rattle.modbus.proofs.HexLaws.{length_text, text_append}
 use Rattle.modbus.proofs.Views.{Six, six, six?}
 use Rattle.ascii.proofs.ReadingLaws.{crlf}
+use Rattle.response.specs.Bounded.{extended}
+use Rattle.response.proofs.BoundedLaws.{extended_put}
 use Rattle.transports.specs.Sealed.{Seals, sealed}
+use Rattle.transports.proofs.AsciiLaws.{front}
 
 -- an array that is a front of the reply, and a front of it
 pub chunk_length : (reply array : List ℕ) (m : ℕ) → IsFirstChunk reply array m → length array ≡ m
@@ -25,6 +30,16 @@ chunk_length reply array m c = ap length c.same ∙ length-take-le m reply c.eno
 
 pub copied_front : (reply array : List ℕ) (m n : ℕ) → IsFirstChunk reply array m → n ≤ m → take n array ≡ take n reply
 copied_front reply array m n c h = ap (take n) c.same ∙ take-take n m reply h
+
+-- the first bytes of a reply, as many as an array has, laid over the array
+pub filled_front : (reply array after : List ℕ) (n : ℕ) (r : Result ℕ ErrorKind)
+    → ◌≡◌ {A = (ℕ × ℕ) × List ℕ} (paper r, after) (told_with array (extended array 0 (take (length array) reply)))
+    → n ≤ length array → length array ≤ length reply → take n after ≡ take n reply
+filled_front reply array after n r e h k =
+    let i = length array in
+    let m = length-take-le i reply k in
+    let q = ap (take i) (extended_put array (take i reply) after 0 r e (omega arith)) ∙ front (take i reply) array i m (omega arith) in
+    sym (take-take n i after h) ∙ ap (take n) q ∙ take-take n i reply h
 
 -- bytes laid over themselves
 sets_same : (l : List ℕ) (i n : ℕ) → i + n ≤ length l → sets l i (take n (drop i l)) ≡ l

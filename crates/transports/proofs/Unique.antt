@@ -14,6 +14,8 @@ use Rattle.modbus.proofs.Unique.{Unique}
 use Rattle.transports.specs.declared.Fault.{Fault}
 use Rattle.transports.specs.Opened.{source}
 use Rattle.transports.proofs.AnswerLaws.{same_body, found, same_found}
+use Rattle.transports.proofs.Fault.outcome.Kinds as outcome-kinds
+use Rattle.transports.proofs.Fault.outcome.Reads as outcome-reads
 use Rattle.transports.proofs.open.Kinds as open-kinds
 use Rattle.transports.proofs.open.Reads as open-reads
 use Rattle.transports.proofs.rtu.open_rtu.Kinds as open-rtu-kinds
@@ -30,6 +32,9 @@ use Rattle.transports.proofs.body_source.Kinds as body-source-kinds
 use Rattle.transports.proofs.body_source.Reads as body-source-reads
 use Rattle.transports.proofs.seal.Kinds as seal-kinds
 use Rattle.transports.proofs.seal.Reads as seal-reads
+
+pub outcome : Unique 0 outcome-kinds.ps outcome-kinds.r outcome-reads.Post
+outcome κs a x y u v p q = (p ∙ sym q, refl)
 
 pub open_rtu : Unique 1 open-rtu-kinds.ps open-rtu-kinds.r open-rtu-reads.Post
 open_rtu κs a x y u v p q = (p ∙ sym q, refl)

@@ -75,20 +75,11 @@ pub fn body_of<'a>(
     ensures ok { IfOk result (λ body. Holds (proto_of transport) frame.now body.now (unwrap (proto_of transport) (spelled_in (proto_of transport) hex frame.now))) }
     ensures err { IfErr result (λ fault. unwrap (proto_of transport) (spelled_in (proto_of transport) hex frame.now) ≡ stop (fault_of fault)) }
 {
-    match transport {
-        0 => {
-            let n = open_rtu(frame)?;
-            Ok(&frame[..n])
-        }
-        1 => {
-            let n = open_ascii(hex, frame, raw)?;
-            Ok(&raw[..n])
-        }
-        _ => {
-            let n = open_tcp(frame)?;
-            Ok(&frame[6..6 + n])
-        }
-    }
+    let n = open(transport, hex, frame, raw)?;
+    let start = start_of(transport);
+    let end = start + n;
+    let source = body_source(transport, raw, frame);
+    Ok(&source[start..end])
 }
 
 // Makes the n bytes that stand in the reply from the transport's start on a frame at the front of the reply, and answers its length;

@@ -15,6 +15,7 @@ ghost use Rattle.transports.specs.Sealed.{sealed};
 use crate::Fault;
 use ascii::{low_digit, other, parse_text, put_text};
 use checks::calc_lrc;
+use response::extend;
 
 // Whether a frame is a line of text within the bounds.
 fn is_line(frame: &[u8]) -> bool
@@ -142,7 +143,9 @@ fn lay_front(reply: &mut [u8], n: usize) -> u8
         let few: [u8; 16] = *reply.first_chunk().unwrap();
         return lay_few(reply, &few[..n]);
     }
-    let many: [u8; 256] = *reply.first_chunk().unwrap();
+    // By `extend` and not by `first_chunk`: of so many bytes the compiler would make a call of `memcpy`.
+    let mut many = [0u8; 256];
+    let _ = extend(&mut many, 0, &reply[..256]);
     lay_many(reply, &many[..n])
 }
 

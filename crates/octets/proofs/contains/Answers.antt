@@ -5,4 +5,4 @@ use Rattle.octets.proofs.PutLaws.{found}
 use Rattle.octets.proofs.contains.Goals as goal
 
 pub returns : goal.returns
-returns c = c.contains.ensures.value ∙ found c.args.b c.args.s.now
+returns c = c.stands.ensures ∙ found c.args.b c.args.s.now

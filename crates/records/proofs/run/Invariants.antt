@@ -1,8 +1,7 @@
 -- `records::run` counts a record a turn, is safe and ends.
 -- Assumes nothing.
 use Rattle.std.proofs.Common.{◌≤◌}
-use denote.Param.Always.{always_mut}
 use Rattle.records.proofs.run.Given as goal
 
 abbrev pub invariant-loop-turn : goal.invariant-loop-turn
-invariant-loop-turn g l = (l.turn ≤ l.initial.most) × (l.tally.wrong ≤ l.tally.records) × (l.tally.records ≤ l.turn) × (always_mut g.F.FnMut l.initial.agrees → always_mut g.F.FnMut l.agrees)
+invariant-loop-turn g l = (l.turn ≤ l.initial.most) × (l.tally.wrong ≤ l.tally.records) × (l.tally.records ≤ l.turn)

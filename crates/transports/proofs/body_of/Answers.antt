@@ -1,60 +1,30 @@
--- `transports::body_of` meets its contract, by the transport: the length is that of a body in the frame, or among the decoded bytes.
+-- `transports::body_of` meets its contract: the length is that of a body in the frame, or among the decoded bytes.
 -- Assumes nothing.
-use Rattle.std.proofs.Common.{refl, sym, ◌∙◌, arith}
+use Rattle.std.proofs.Common.{sym, ◌∙◌, arith}
 use Rattle.std.proofs.lemmas.Result.{err_from_is_err_and}
-use Rattle.modbus.specs.declared.ModbusProto.TheVariants.{Rtu, Ascii, TcpUdp}
-use Rattle.transports.proofs.ProtoLaws.{proto_tcp}
-use Rattle.transports.proofs.OpenedLaws.{rtu_front, tcp_front}
-use Rattle.transports.proofs.AnswerLaws.{Opens, opened_none, opened_body, opened_under, opens_holds}
+use Rattle.modbus.specs.Paper.{proto_of}
+use Rattle.modbus.specs.Decode.{spelled_in}
+use Rattle.transports.proofs.ProtoLaws.{start_six}
+use Rattle.transports.proofs.AnswerLaws.{Opens, opened_none, opened_under, opens_holds}
 use Rattle.transports.proofs.body_of.Goals as goal
-use Rattle.transports.proofs.body_of.Goals.{In_ok-n-in-0, In_ok-n-in-1, In_ok-n-in_default}
-use lib.Seq.{length-take-le}
+use Rattle.transports.proofs.body_of.Goals.{In_ok-n}
 
-rtu_opens : (w : In_ok-n-in-0) → Opens Rtu w.args.frame.now w.args.frame.now w.in_ok-n-in-0.n w.args.raw.now
-rtu_opens w = opened_body Rtu _ _ (sym w.in_ok-n-in-0.was ∙ w.open_rtu.ensures) w.args.raw.now (rtu_front _) w.told-raw
+opens : (w : In_ok-n) → Opens (proto_of w.args.transport) (spelled_in (proto_of w.args.transport) w.args.hex w.args.frame.now) w.args.frame.now w.in_ok-n.n w.open.new.raw
+opens w =
+    let e = w.open.ensures in
+    opened_under (proto_of w.args.transport) w.args.hex w.args.frame.now w.in_ok-n.n (sym w.in_ok-n.was ∙ e.value) w.open.new.raw e.fronted (e.raw_len_unchanged ∙ w.told-raw)
 
-tcp_opens : (w : In_ok-n-in_default) → Opens TcpUdp w.args.frame.now w.args.frame.now w.in_ok-n-in_default.n w.args.raw.now
-tcp_opens w = opened_body TcpUdp _ _ (sym w.in_ok-n-in_default.was ∙ w.open_tcp.ensures) w.args.raw.now (tcp_front _) w.told-raw
-
-pub returns-in_err-n-in-0-clause-err : goal.returns-in_err-n-in-0-clause-err
-returns-in_err-n-in-0-clause-err c =
+pub returns-in_err-n-clause-err : goal.returns-in_err-n-clause-err
+returns-in_err-n-clause-err c =
     let p = err_from_is_err_and c.from_residual.result c.from_residual.ensures.1 in
-    rw (p.1, p.2, c.in-0.is) (opened_none Rtu _ c.in_err-n-in-0.field-0.0 (sym c.in_err-n-in-0.was ∙ c.open_rtu.ensures))
+    rw (p.1, p.2) (opened_none (proto_of c.args.transport) _ c.in_err-n.field-0.0 (sym c.in_err-n.was ∙ c.open.ensures.value))
+
+pub overflow_add-end : goal.overflow_add-end
+overflow_add-end c = record { fits = omega (arith, (opens (goal.at.overflow_add-end c).In_ok-n).4, start_six (proto_of c.args.transport), c.start_of-start.ensures) }
 
 pub slice_bounds-result-end : goal.slice_bounds-result-end
-slice_bounds-result-end c = sym (length-take-le _ c.args.frame.now (omega (arith, (rtu_opens c).2)))
+slice_bounds-result-end c = rw (c.body_source-source.ensures, c.start_of-start.ensures) (opens (goal.at.slice_bounds-result-end c).In_ok-n).2
 
-pub returns-in_err-n-in-1-clause-err : goal.returns-in_err-n-in-1-clause-err
-returns-in_err-n-in-1-clause-err c =
-    let p = err_from_is_err_and c.from_residual-in_err-n-in-1.result c.from_residual-in_err-n-in-1.ensures.1 in
-    rw (p.1, p.2, c.in-1.is) (opened_none Ascii _ c.in_err-n-in-1.field-0.0 (sym c.in_err-n-in-1.was ∙ c.open_ascii.ensures.value))
-
-pub returns-in_err-n-in_default-clause-err : goal.returns-in_err-n-in_default-clause-err
-returns-in_err-n-in_default-clause-err c =
-    let p = err_from_is_err_and c.from_residual-in_err-n-in_default.result c.from_residual-in_err-n-in_default.ensures.1 in
-    rw (p.1, p.2, proto_tcp c.args.transport (λ h. omega arith) (λ h. omega arith))
-    (opened_none TcpUdp _ c.in_err-n-in_default.field-0.0 (sym c.in_err-n-in_default.was ∙ c.open_tcp.ensures))
-
-pub overflow_add-result : goal.overflow_add-result
-overflow_add-result c = record { fits = omega (arith, (tcp_opens c).4) }
-
-pub slice_bounds-result-end-in_default : goal.slice_bounds-result-end-in_default
-slice_bounds-result-end-in_default c = (tcp_opens c).2
-
-pub returns-in_ok-n-in-0-clause-ok : goal.returns-in_ok-n-in-0-clause-ok
-returns-in_ok-n-in-0-clause-ok c =
-    let h = rtu_opens c in
-    let l = length-take-le c.in_ok-n-in-0.n c.args.frame.now (omega (arith, h.2)) in
-    rw c.in-0.is (h.0, omega (arith, h.1, l), h.3)
-
-pub returns-in_ok-n-in-1-clause-ok : goal.returns-in_ok-n-in-1-clause-ok
-returns-in_ok-n-in-1-clause-ok c =
-    let e = c.open_ascii.ensures in
-    let h = opened_under Ascii c.args.hex c.args.frame.now c.in_ok-n-in-1.n (sym c.in_ok-n-in-1.was ∙ e.value) c.open_ascii.new.raw e.fronted (e.raw_len_unchanged ∙ c.told-raw) in
-    let l = length-take-le c.in_ok-n-in-1.n c.open_ascii.new.raw (omega (arith, h.2)) in
-    rw c.in-1.is (h.0, omega (arith, h.1, l), h.3)
-
-pub returns-in_ok-n-in_default-clause-ok : goal.returns-in_ok-n-in_default-clause-ok
-returns-in_ok-n-in_default-clause-ok c =
-    let h = tcp_opens (goal.at.returns-in_ok-n-in_default-clause-ok c).In_ok-n-in_default in
-    rw (proto_tcp c.args.transport (λ h. omega arith) (λ h. omega arith)) (opens_holds TcpUdp _ _ c.in_ok-n-in_default.n 6 c.args.raw.now _ h refl refl)
+pub returns-clause-ok : goal.returns-clause-ok
+returns-clause-ok c =
+    opens_holds (proto_of c.args.transport) _ _ c.in_ok-n.n _ c.open.new.raw _ (opens (goal.at.returns-clause-ok c).In_ok-n) c.start_of-start.ensures c.body_source-source.ensures

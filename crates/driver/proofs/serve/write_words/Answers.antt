@@ -3,7 +3,7 @@
 use native.Mathlib.Omega.{arith}
 use mathlib.Core.Path.{◌≡◌, ◌∙◌}
 use Rattle.modbus.specs.Storage.{registers}
-use Rattle.driver.proofs.ReplyLaws.{holds_by, words_done, changed_done, words_put, changed_put, single_word}
+use Rattle.driver.proofs.ReplyLaws.{holds_by, changed_done, words_put, changed_put, single_word}
 use Rattle.driver.proofs.serve.write_words.Goals as goal
 
 pub unwrap-requires : goal.unwrap-requires
@@ -12,11 +12,6 @@ unwrap-requires c =
     let x = c.args.c in
     let k : x.count ≡ 1 = c.requires.2 c.if-at-eq4.true in
     holds_by _ c.set_holding.result (changed_done registers a.holdings.now a.cells c.requires.3 _ _ x.address _ c.set_holding.ensures (omega (arith, c.requires.0)))
-
-pub unwrap-requires-2 : goal.unwrap-requires-2
-unwrap-requires-2 c =
-    let a = c.args in
-    holds_by _ c.set_holdings_from_u8.result (words_done a.holdings.now a.cells c.requires.3 _ _ a.body.now a.c.at a.c.address a.c.count c.set_holdings_from_u8.ensures c.requires.0 c.requires.1)
 
 pub returns-then-at-eq4 : goal.returns-then-at-eq4
 returns-then-at-eq4 c =

@@ -3,7 +3,6 @@
 use Rattle.std.proofs.Common.{◌≡◌, ◌+◌, ◌-◌, rules, ◌++◌, take, drop, sym, ap, ◌∙◌, arith, length-drop, length-take-le}
 use Rattle.logs.specs.Log.{report}
 use Rattle.logs.proofs.LogLaws.{more_short}
-use Rattle.linecount.proofs.ReadingLaws.{waits}
 use Rattle.linecount.proofs.reading.Buffer.take_in.Goals as goal
 
 pub invariant_of-self : goal.invariant_of-self
@@ -25,6 +24,4 @@ returns-clause-continues c =
     let t = c.count_part.new.self.total in
     let used = c.in_ok-used.used in
     let e : t.at - c.args.counter.now.total.at ≡ used = omega (arith, p.waits.0) in
-    let k = length-take-le h l (search rules) in
-    let w = waits l c.copy_within.new.self used h (omega (arith, p.taken.2, p.waits.0, k)) (search rules) c.copy_within.ensures.after in
-    λ next. p.taken.0 next ∙ ap (λ x. report t (x ++ next)) (ap (λ j. drop j (take h l)) e ∙ sym w)
+    λ next. p.taken.0 next ∙ ap (λ x. report t (x ++ next)) (ap (λ j. drop j (take h l)) e ∙ sym c.keep.ensures)

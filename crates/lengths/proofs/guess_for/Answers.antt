@@ -1,11 +1,11 @@
--- `lengths::guess_frame_len` meets its contract: under one of the two switches each arm is a transport.
+-- `lengths::guess_for` meets its contract: under one of the two switches each arm is a transport.
 -- Assumes nothing.
 use mathlib.Core.Path.{sym, ap, ◌∙◌}
 use native.Mathlib.Omega.{arith}
 use Rattle.modbus.specs.Paper.{told}
 use Rattle.modbus.proofs.StepLaws.{pass, fail}
 use Rattle.lengths.specs.Guess.{guess}
-use Rattle.lengths.proofs.guess_frame_len.Goals as goal
+use Rattle.lengths.proofs.guess_for.Goals as goal
 
 pub returns-then-hex-gt1 : goal.returns-then-hex-gt1
 returns-then-hex-gt1 c = sym (ap told (fail _ _ _ (λ h. omega (arith, h))))
